@@ -1,0 +1,13 @@
+use borrow.Author.Count.{below-more}
+use mathlib.Core.Logic.{_≢_}
+use native.Mathlib.Omega.{arith}
+use Prim.Native.Nat.{_<_}
+use lib.ListN.{length}
+use lib.Seq.{getD-set-same, getD-set-other}
+use Rattle.code.proofs.convolution.write_coded.Needs as need
+
+pub loop-place-again : need.loop-place-again
+loop-place-again c =
+    below-more _ _
+    (λ k h. let other : k ≢ c .loop-place .place = omega arith in rw getD-set-other (c .loop-place .inv k h))
+    (let inside : c .loop-place .place < length (c .loop-place .out) = omega arith in rw getD-set-same (c .coded-bit .ensures .value))

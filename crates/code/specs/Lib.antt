@@ -1,0 +1,5 @@
+pub mod Bits
+pub mod Part
+pub mod Parts
+pub mod Convolution
+pub mod Coding

@@ -1,0 +1,37 @@
+// The checks of a buffer of bits.
+ghost use mathlib.Core.Path.{_≡_};
+ghost use Rattle.std.specs.declared.result.Result.the-variants.{Ok};
+ghost use Rattle.code.specs.Bits.{length-check, bits-check, writing-check};
+use fault::ParityFault;
+
+// Every byte is 0 or 1, or the first that is not is told.
+pub fn check_bits(bytes: &[u8]) -> Result<(), ParityFault>
+    ensures value { λ r. ⌜ r ≡ bits-check (now (bytes .entry)) ⌝ }
+{
+    for (index, byte) in bytes.iter().enumerate() {
+        if *byte > 1 {
+            return Err(ParityFault::NotABit { index });
+        }
+    }
+    Ok(())
+}
+
+// A buffer, told by its number in the order of the checks, has the length asked.
+pub fn check_length(buffer: u8, given: usize, asked: usize) -> Result<(), ParityFault>
+    ensures value { λ r. ⌜ r ≡ length-check buffer given asked (Ok tt) ⌝ }
+{
+    if given == asked {
+        Ok(())
+    } else {
+        Err(ParityFault::Length { buffer })
+    }
+}
+
+// A call that writes from a string of bits checks the string's length, the output's, then the bits.
+pub fn check_writing(bits: &[u8], asked: usize, out: usize, room: usize) -> Result<(), ParityFault>
+    ensures value { λ r. ⌜ r ≡ writing-check (now (bits .entry)) asked out room ⌝ }
+{
+    check_length(1, bits.len(), asked)?;
+    check_length(2, out, room)?;
+    check_bits(bits)
+}
