@@ -9,7 +9,7 @@ use Rattle.std.specs.declared.result.Result.the-variants.{Ok, Err}
 use Rattle.std.proofs.shelf.Tests.{lt-ltb, ltb-true, eq-eqb, eqb-true, cond-true}
 use native.Mathlib.Omega.{arith}
 use Rattle.fault.specs.declared.ParityFault.{ParityFault}
-use Rattle.code.specs.Bits.{Bits, Checked, unless, length-check, bits-check-from, bits-check, writing-check}
+use Rattle.code.specs.Bits.{Bits, Checked, unless, length-check, bits-check-from, bits-check, string-check, writing-check}
 
 -- what passes had its test passed, and so had the rest
 pub unless-passed : (t : Bool) (f : ParityFault) (rest : Checked) → unless t f rest ≡ Ok tt → (t ≡ true) × (rest ≡ Ok tt)
@@ -30,6 +30,14 @@ pub bits-pass : (i : ℕ) (bytes : List ℕ) → Bits bytes → bits-check-from 
 bits-pass i [] h = refl
 bits-pass i (b ∷ bytes) h =
     cond-true (ltb b 2) _ _ (lt-ltb b 2 (h .0)) ∙ bits-pass (i + 1) bytes (h .1)
+
+pub string-passed : (bits : List ℕ) (asked : ℕ) → string-check bits asked ≡ Ok tt → (length bits ≡ asked) × Bits bits
+string-passed bits asked e =
+    let first = length-passed 1 (length bits) asked (bits-check bits) e in (first .0, bits-passed 0 bits (first .1))
+
+pub string-passes : (bits : List ℕ) (asked : ℕ) → length bits ≡ asked → Bits bits → string-check bits asked ≡ Ok tt
+string-passes bits asked long h =
+    cond-true (eqb (length bits) asked) _ _ (eq-eqb (length bits) asked long) ∙ bits-pass 0 bits h
 
 -- what a call that writes knows once its checks have passed
 pub writing-passed : (bits : List ℕ) (asked out room : ℕ) → writing-check bits asked out room ≡ Ok tt → (length bits ≡ asked) × (out ≡ room) × Bits bits

@@ -39,6 +39,10 @@ bits-check-from i (b ∷ bs) = unless (ltb b 2) (NotABit i) (bits-check-from (i 
 abbrev pub bits-check : List ℕ → Checked
 bits-check = bits-check-from 0
 
+-- a call that reads a string of bits: its length, then the bits
+abbrev pub string-check : List ℕ → ℕ → Checked
+string-check bits asked = length-check 1 (length bits) asked (bits-check bits)
+
 -- a call that writes from a string of bits: the string's length, the output's, then the bits
 abbrev pub writing-check : List ℕ → ℕ → ℕ → ℕ → Checked
 writing-check bits asked out room = length-check 1 (length bits) asked (length-check 2 out room (bits-check bits))

@@ -1,11 +1,11 @@
 // The checks of a buffer of bits.
 ghost use mathlib.Core.Path.{_≡_};
 ghost use Rattle.std.specs.declared.result.Result.the-variants.{Ok};
-ghost use Rattle.code.specs.Bits.{length-check, bits-check, writing-check};
+ghost use Rattle.code.specs.Bits.{length-check, bits-check, string-check, writing-check};
 use fault::ParityFault;
 
 // Every byte is 0 or 1, or the first that is not is told.
-pub fn check_bits(bytes: &[u8]) -> Result<(), ParityFault>
+fn check_bits(bytes: &[u8]) -> Result<(), ParityFault>
     ensures value { λ r. ⌜ r ≡ bits-check (now (bytes .entry)) ⌝ }
 {
     for (index, byte) in bytes.iter().enumerate() {
@@ -17,7 +17,7 @@ pub fn check_bits(bytes: &[u8]) -> Result<(), ParityFault>
 }
 
 // A buffer, told by its number in the order of the checks, has the length asked.
-pub fn check_length(buffer: u8, given: usize, asked: usize) -> Result<(), ParityFault>
+fn check_length(buffer: u8, given: usize, asked: usize) -> Result<(), ParityFault>
     ensures value { λ r. ⌜ r ≡ length-check buffer given asked (Ok tt) ⌝ }
 {
     if given == asked {
@@ -25,6 +25,14 @@ pub fn check_length(buffer: u8, given: usize, asked: usize) -> Result<(), Parity
     } else {
         Err(ParityFault::Length { buffer })
     }
+}
+
+// A call that reads a string of bits checks its length, then the bits.
+pub fn check_string(bits: &[u8], asked: usize) -> Result<(), ParityFault>
+    ensures value { λ r. ⌜ r ≡ string-check (now (bits .entry)) asked ⌝ }
+{
+    check_length(1, bits.len(), asked)?;
+    check_bits(bits)
 }
 
 // A call that writes from a string of bits checks the string's length, the output's, then the bits.

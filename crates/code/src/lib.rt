@@ -5,8 +5,7 @@ mod laws;
 mod part;
 mod parts;
 
-pub use check::check_bits;
-pub use check::check_length;
+pub use check::check_string;
 pub use check::check_writing;
 pub use convolution::coded_bit;
 pub use convolution::encode;
