@@ -1,0 +1,93 @@
+-- A test of figures that computes, and what it means: one proof for the whole list.
+use mathlib.Core.Bool.{Bool, true, false, _&&_}
+use mathlib.Core.List.{List, [], _∷_, _++_, map, append-assoc, append-nil}
+use mathlib.Core.Path.{_≡_, refl, sym, subst, ap₂}
+use Prim.Native.Nat.{ℕ}
+use lib.Dec.{ltb, eqb}
+use lib.ListN.{length}
+use Rattle.std.specs.Iters.{folded}
+use Rattle.std.specs.shelf.Lists.{All}
+use Rattle.std.proofs.shelf.Lists.{take-at}
+use Rattle.std.proofs.shelf.Tests.{and-parts, eqb-true, ltb-true, false≢true}
+use Rattle.code.specs.Bits.{Bits}
+use Rattle.code.specs.Convolution.{coded}
+use Rattle.code.specs.Part.{Limits, Sound}
+use Rattle.code.specs.Parts.{ruleOf}
+use Rattle.code.specs.declared.parts.EcPart.the-variants.{McsHeader}
+use Rattle.code.proofs.Limits.{table-limits}
+use Rattle.code.specs.declared.part.Generator.{Generator}
+use Rattle.code.specs.declared.part.Rule.{Rule}
+use Rattle.parity.specs.Division.{Leaves, all-ones, next}
+use Rattle.parity.specs.Parity.{Word-of}
+use Rattle.parity.proofs.Steps.{leaves-none, leaves-more}
+use Rattle.placement.specs.Kept.{header-kept}
+use Rattle.figures.specs.Figures.{Figure, parity-of, header-bits, Holds}
+
+abbrev all-bits : List ℕ → Bool
+all-bits [] = true
+all-bits (b ∷ bs) = ltb b 2 && all-bits bs
+
+tested-bits : (bits : List ℕ) → all-bits bits ≡ true → Bits bits
+tested-bits [] t = tt
+tested-bits (b ∷ bits) t =
+    let parts = and-parts (ltb b 2) (all-bits bits) t in (ltb-true b 2 (parts .0), tested-bits bits (parts .1))
+
+module _ (g : Generator) (sound : Sound g) where
+  from : (done bits : List ℕ) (r : ℕ) → Bits bits → Leaves g done r → Leaves g (done ++ bits) (folded (next g) r bits)
+  from done [] r h old = subst (λ (l : List ℕ). Leaves g l r) (sym (append-nil done)) old
+  from done (b ∷ bits) r h old =
+      subst (λ (l : List ℕ). Leaves g l (folded (next g) (next g r b) bits)) (append-assoc done (b ∷ []) bits)
+      (from (done ++ (b ∷ [])) bits (next g r b) (h .1) (leaves-more g sound done r b old (h .0)))
+
+  -- the remainder, worked out bit by bit
+  leaves-computed : (bits : List ℕ) → Bits bits → Leaves g bits (folded (next g) 0 bits)
+  leaves-computed bits h = from [] bits 0 h (leaves-none g sound)
+
+-- message and parity have a part's lengths, are bits, and leave every coefficient 1
+abbrev word-test : Rule → List ℕ → List ℕ → Bool
+word-test rule m p =
+    eqb (length m) (rule .message) && eqb (length (m ++ p)) (rule .word) && all-bits (m ++ p)
+    && eqb (folded (next (rule .generator)) 0 (m ++ p)) (all-ones (rule .generator))
+
+tested-word : (rule : Rule) → Limits rule → (m p : List ℕ) → word-test rule m p ≡ true → Word-of rule m (m ++ p)
+tested-word rule limits m p t =
+    let a = and-parts _ _ t in
+    let b = and-parts _ _ (a .0) in
+    let c = and-parts _ _ (b .0) in
+    let bits = tested-bits (m ++ p) (b .1) in
+    record {
+      word = record { long = eqb-true _ _ (c .1); bits = bits };
+      begins = take-at m p (rule .message) (eqb-true _ _ (c .0));
+      right = subst (Leaves (rule .generator) (m ++ p)) (eqb-true _ _ (a .1)) (leaves-computed (rule .generator) (limits .generator) (m ++ p) bits);
+    }
+
+abbrev same-bits : List ℕ → List ℕ → Bool
+same-bits [] [] = true
+same-bits [] (y ∷ ys) = false
+same-bits (x ∷ xs) [] = false
+same-bits (x ∷ xs) (y ∷ ys) = eqb x y && same-bits xs ys
+
+tested-same : (xs ys : List ℕ) → same-bits xs ys ≡ true → xs ≡ ys
+tested-same [] [] t = refl
+tested-same [] (y ∷ ys) t = absurd (false≢true t)
+tested-same (x ∷ xs) [] t = absurd (false≢true t)
+tested-same (x ∷ xs) (y ∷ ys) t =
+    let parts = and-parts (eqb x y) (same-bits xs ys) t in ap₂ _∷_ (eqb-true x y (parts .0)) (tested-same xs ys (parts .1))
+
+abbrev pub holds-test : Figure → Bool
+holds-test (parity-of part message parity) = word-test (ruleOf part) message parity
+holds-test (header-bits word bits) = same-bits (map (coded (ruleOf McsHeader .ending) word) header-kept) bits
+
+tested-figure : (f : Figure) → holds-test f ≡ true → Holds f
+tested-figure (parity-of part message parity) t = tested-word (ruleOf part) (table-limits part) message parity t
+tested-figure (header-bits word bits) t = tested-same (map (coded (ruleOf McsHeader .ending) word) header-kept) bits t
+
+abbrev pub all-test : List Figure → Bool
+all-test [] = true
+all-test (f ∷ fs) = holds-test f && all-test fs
+
+-- a list whose test passes holds, figure by figure
+pub tested-all : (fs : List Figure) → all-test fs ≡ true → All Holds fs
+tested-all [] t = tt
+tested-all (f ∷ fs) t =
+    let parts = and-parts (holds-test f) (all-test fs) t in (tested-figure f (parts .0), tested-all fs (parts .1))
