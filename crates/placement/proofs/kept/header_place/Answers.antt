@@ -27,7 +27,14 @@ returns-then-entry-lt48 c =
     let j = c .args .entry in
     let inside : j < length header-kept = omega (arith, long) in
     let place = eqb-true (getD header-kept j 0) _ (tested-at 48 by-formula all-by-formula j (c .if-entry-lt48 .taken)) in
-    record { value = sym (nth-getD header-kept j 0 inside ∙ ap Some place) }
+    record {
+      value = sym (nth-getD header-kept j 0 inside ∙ ap Some place);
+      within = λ n e. let same : 3 * (j / 2) + j % 2 ≡ n = cc in omega arith;
+    }
 
 pub returns-else-entry-lt48 : need.returns-else-entry-lt48
-returns-else-entry-lt48 c = record { value = sym (nth-past header-kept (c .args .entry) (omega (arith, long))) }
+returns-else-entry-lt48 c = 
+    record {
+      value = sym (nth-past header-kept (c .args .entry) (omega (arith, long)));
+      within = λ n e. let z : _≡_ {A = ℕ} 0 1 = cc in absurd (omega arith);
+    }
