@@ -1,6 +1,7 @@
 -- Strings of bits, and which byte is refused where a string of bits is asked. A bit in a buffer is a byte, 0 or 1.
 use mathlib.Core.Bool.{Bool, cond}
 use mathlib.Core.List.{List, [], _∷_}
+use mathlib.Core.Path.{_≡_}
 use Prim.Native.Nat.{ℕ, _+_, _%_, _<_}
 use lib.Dec.{eqb, ltb}
 use lib.ListN.{length}
@@ -12,6 +13,11 @@ use Rattle.fault.specs.declared.ParityFault.the-variants.{Length, NotABit}
 
 abbrev pub Bits : List ℕ → Type 0
 Bits = All (λ b. b < 2)
+
+-- a string of n bits
+pub record Bit-string (n : ℕ) (string : List ℕ) : Type 0 where
+  pub long : length string ≡ n
+  pub bits : Bits string
 
 -- the sum, bit by bit modulo 2, of two strings of one length
 abbrev pub sum-word : List ℕ → List ℕ → List ℕ

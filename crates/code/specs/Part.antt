@@ -2,8 +2,7 @@
 use mathlib.Core.List.{List}
 use mathlib.Core.Path.{_≡_}
 use Prim.Native.Nat.{ℕ, _+_, _*_, _^_, _<_, _≤_}
-use lib.ListN.{length}
-use Rattle.code.specs.Bits.{Bits}
+use Rattle.code.specs.Bits.{Bit-string}
 use Rattle.code.specs.declared.part.Ending.{Ending}
 use Rattle.code.specs.declared.part.Ending.the-variants.{TailBiting, ZeroTail}
 use Rattle.code.specs.declared.part.Generator.{Generator}
@@ -32,7 +31,10 @@ steps ZeroTail n = n + 6
 abbrev pub places : Rule → ℕ
 places r = 3 * steps (r .ending) (r .word)
 
+-- a message of a part
+abbrev pub Message : Rule → List ℕ → Type 0
+Message r = Bit-string (r .message)
+
 -- a word of a part: message, then parity, the parity right or wrong
-pub record Word (r : Rule) (w : List ℕ) : Type 0 where
-  pub long : length w ≡ r .word
-  pub bits : Bits w
+abbrev pub Word : Rule → List ℕ → Type 0
+Word r = Bit-string (r .word)

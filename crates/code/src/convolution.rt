@@ -1,9 +1,8 @@
 // The convolutional code, for any part and both endings.
-ghost use mathlib.Core.Bool.{true};
 ghost use mathlib.Core.Path.{_≡_};
-ghost use Prim.Native.Nat.{ℕ, _<_};
+ghost use Prim.Native.Nat.{_<_};
 ghost use lib.ListN.{length, getD};
-ghost use Rattle.std.specs.Results.{isOk, isErr};
+ghost use Rattle.std.specs.Vec.{made, refused};
 ghost use Rattle.code.specs.Bits.{writing-check};
 ghost use Rattle.code.specs.Coding.{coded-word};
 ghost use Rattle.code.specs.Convolution.{back, coded};
@@ -52,10 +51,12 @@ pub fn coded_bit(ending: Ending, word: &[u8], place: usize) -> u8
     ((ends + between) % 2) as u8
 }
 
-// Writes as many coded bits of a word as there is room for.
-fn write_coded(ending: Ending, word: &[u8], out: &mut [u8])
-    ensures after { λ _. ⌜ ((k : ℕ) → k < length (now (out .entry)) → getD (now (out .exit)) k 0 ≡ coded ending (now (word .entry)) k) ⌝ }
+// Writes the coded bits of a word.
+fn write_coded<C: CodePart>(part: &C, word: &[u8], out: &mut [u8])
+    requires room { ⌜ length (now out) ≡ places (rule (now part)) ⌝ }
+    ensures after { λ _. ⌜ now (out .exit) ≡ coded-word (rule (now (part .entry))) (now (word .entry)) ⌝ }
 {
+    let ending = part.ending();
     for (place, bit) in out.iter_mut().enumerate() {
         *bit = coded_bit(ending, word, place);
     }
@@ -64,10 +65,10 @@ fn write_coded(ending: Ending, word: &[u8], out: &mut [u8])
 // Writes the coded bits of a word of a part. It checks the word's length, the output's, then the word's bits.
 pub fn encode<C: CodePart>(part: &C, word: &[u8], out: &mut [u8]) -> Result<(), ParityFault>
     ensures refusal { λ r. ⌜ r ≡ writing-check (now (word .entry)) (rule (now (part .entry)) .word) (length (now (out .entry))) (places (rule (now (part .entry)))) ⌝ }
-    ensures same { λ r. ⌜ (isErr r ≡ true → now (out .exit) ≡ now (out .entry)) ⌝ }
-    ensures after { λ r. ⌜ (isOk r ≡ true → now (out .exit) ≡ coded-word (rule (now (part .entry))) (now (word .entry))) ⌝ }
+    ensures same { λ r. ⌜ refused r (λ _. now (out .exit) ≡ now (out .entry)) ⌝ }
+    ensures after { λ r. ⌜ made r (λ _. now (out .exit) ≡ coded-word (rule (now (part .entry))) (now (word .entry))) ⌝ }
 {
     check_writing(word, part.word_length(), out.len(), part.coded_count())?;
-    write_coded(part.ending(), word, out);
+    write_coded(part, word, out);
     Ok(())
 }

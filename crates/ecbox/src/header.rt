@@ -2,7 +2,6 @@
 ghost use mathlib.Core.Path.{_≡_};
 ghost use lib.ListN.{length, getD};
 ghost use Rattle.ecbox.specs.Stages.{Stages-of, sent-of};
-
 use code::CodePart;
 use code::EcPart;
 use code::EcPartCode;

@@ -1,10 +1,13 @@
 // A console for the codec: one command a line on standard input, each answered on standard output.
 ghost use mathlib.Core.Logic.{_⊎_};
 ghost use mathlib.Core.Path.{_≡_};
+ghost use Rattle.std.specs.Of.String.{string-bytes};
 ghost use Rattle.std.specs.Of.Vec.{vec-items};
 ghost use Rattle.std.specs.Results.{Cases};
+ghost use Rattle.std.specs.Vec.{made};
 ghost use Rattle.ecbox.specs.declared.Misread.the-variants.{NoMemory, NotBits};
 ghost use Rattle.ecbox.specs.Digits.{Digits, digit-values};
+ghost use Rattle.ecbox.specs.Line.{bit-code, bit-codes, refusal-line};
 
 mod header;
 
@@ -73,17 +76,21 @@ impl fmt::Display for Misread as MisreadDisplay {
     }
 }
 
-// Bits written 0 and 1, first bit first.
-#[derive(Clone, Copy)]
-struct Written<'a>(&'a [u8]);
+fn bit_char(bit: u8) -> char
+    ensures value { λ r. ⌜ r ≡ bit-code bit ⌝ }
+{
+    if bit == 0 { '0' } else { '1' }
+}
 
-impl fmt::Display for Written<'_> as WrittenDisplay {
-    fn fmt<W: fmt::Write>(&self, f: &mut fmt::Formatter<W>) -> fmt::Result {
-        for bit in self.0 {
-            write!(f, "{bit}")?;
-        }
-        Ok(())
+// Bits written 0 and 1, first bit first.
+fn bits_text(heap: Global, bits: &[u8]) -> Result<String, AllocError>
+    ensures made { λ r. ⌜ made r (λ text. string-bytes text ≡ bit-codes (now (bits .entry))) ⌝ }
+{
+    let mut text = String::new(heap);
+    for bit in bits {
+        text.push(bit_char(*bit))?;
     }
+    Ok(text)
 }
 
 // The digits of a text as numbers.
@@ -127,8 +134,8 @@ fn parse(heap: Global, line: &str) -> Result<Command, Misread> {
 
 fn say_stage(rt: &LibcRuntime, name: &str, bits: &[u8]) -> Result<(), AnyError> {
     let count = bits.len();
-    let written = Written(bits);
-    println!(rt, "{name} {count} bits {written}")?;
+    let text = bits_text(rt.alloc(), bits)?;
+    println!(rt, "{name} {count} bits {text}")?;
     Ok(())
 }
 
@@ -140,16 +147,27 @@ fn say_stages(rt: &LibcRuntime, message: &[u8], stages: &Stages) -> Result<(), A
     say_stage(rt, "kept", &stages.kept)
 }
 
-fn say_refusal(rt: &LibcRuntime, fault: Fault) -> Result<(), AnyError> {
+// A refusal as the console writes it.
+fn refusal(heap: Global, fault: Fault) -> Result<String, AllocError>
+    ensures made { λ r. ⌜ made r (λ line. string-bytes line ≡ refusal-line fault) ⌝ }
+{
     let number = fault.number();
     let layer = fault.layer();
     let detail = fault.detail();
-    println!(rt, "refused {number} {layer} {detail}")?;
+    format!(heap, "refused {number} {layer} {detail}")
+}
+
+fn say_refusal(rt: &LibcRuntime, fault: Fault) -> Result<(), AnyError> {
+    let line = refusal(rt.alloc(), fault)?;
+    println!(rt, "{line}")?;
     Ok(())
 }
 
 fn say_help(rt: &LibcRuntime) -> Result<(), AnyError> {
-    println!(rt, "header BITS    16 bits of a header: its parity, its coded bits, and those that are sent")?;
+    println!(
+        rt,
+        "header BITS    16 bits of a header: its parity, its coded bits, and those that are sent"
+    )?;
     println!(rt, "help           this list")?;
     Ok(())
 }

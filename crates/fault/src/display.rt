@@ -1,4 +1,6 @@
 // What an operator reads of a fault.
+ghost use Rattle.std.specs.declared.option.Option.the-variants.{Some};
+ghost use Rattle.fault.specs.Shown.{layer-text, detail-text};
 use crate::Detail;
 use crate::Fault;
 use crate::Layer;
@@ -10,19 +12,22 @@ use crate::ValueFault;
 use std::fmt;
 
 pub impl fmt::Display for Layer as LayerDisplay {
+    ghost shown = { λ l. Some (layer-text l) };
+
     fn fmt<W: fmt::Write>(&self, f: &mut fmt::Formatter<W>) -> fmt::Result {
-        let name = match self {
-            Layer::Value => "value",
-            Layer::Parity => "parity",
-            Layer::Placement => "placement",
-            Layer::Receiver => "receiver",
-            Layer::Timing => "timing",
-        };
-        write!(f, "{name}")
+        match self {
+            Layer::Value => write!(f, "value"),
+            Layer::Parity => write!(f, "parity"),
+            Layer::Placement => write!(f, "placement"),
+            Layer::Receiver => write!(f, "receiver"),
+            Layer::Timing => write!(f, "timing"),
+        }
     }
 }
 
 pub impl fmt::Display for Detail as DetailDisplay {
+    ghost shown = { λ d. Some (detail-text d) };
+
     fn fmt<W: fmt::Write>(&self, f: &mut fmt::Formatter<W>) -> fmt::Result {
         match self {
             Detail::Number(number) => write!(f, "{number}"),

@@ -4,5 +4,4 @@ ghost use Rattle.figures.specs.Figures.{Figures-hold};
 // Every figure of the list holds.
 pub fn figures_hold()
     ensures law { λ _. ⌜ Figures-hold ⌝ }
-{
-}
+{}

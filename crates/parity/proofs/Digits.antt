@@ -25,7 +25,7 @@ after a (y ∷ ys) =
     let same : folded grow (2 * 0 + y) ys ≡ folded grow y ys = ap (λ n. folded grow n ys) (omega arith) in
     let apart : (2 * a + y) * t ≡ (2 * a) * t + y * t = add-mul (2 * a) y t in
     let power : a * 2 ^ suc (length ys) ≡ (2 * a) * t =
-        ap (λ n. a * n) (pow-suc 2 (length ys) ∙ mul-comm t 2) ∙ sym (mul-assoc a 2 t) ∙ ap (λ n. n * t) (mul-comm a 2) in
+    ap (λ n. a * n) (pow-suc 2 (length ys) ∙ mul-comm t 2) ∙ sym (mul-assoc a 2 t) ∙ ap (λ n. n * t) (mul-comm a 2) in
     omega (arith, one, two, same, apart, power)
 
 joined : (a : ℕ) (xs ys : List ℕ) → folded grow a (xs ++ ys) ≡ folded grow (folded grow a xs) ys
@@ -58,13 +58,13 @@ lead-same : (t a b x y : ℕ) → a < 2 → b < 2 → x < t → y < t → a * t 
 lead-same t a b x y ha hb hx hy h =
     ⊎-elim
     (λ (e : a ≡ 0). ⊎-elim
-      (λ (f : b ≡ 0). (omega arith, omega (arith, ap (λ n. n * t) e, ap (λ n. n * t) f)))
-      (λ (f : b ≡ 1). absurd (omega (arith, ap (λ n. n * t) e, ap (λ n. n * t) f)))
-      (bit-cases b hb))
+    (λ (f : b ≡ 0). (omega arith, omega (arith, ap (λ n. n * t) e, ap (λ n. n * t) f)))
+    (λ (f : b ≡ 1). absurd (omega (arith, ap (λ n. n * t) e, ap (λ n. n * t) f)))
+    (bit-cases b hb))
     (λ (e : a ≡ 1). ⊎-elim
-      (λ (f : b ≡ 0). absurd (omega (arith, ap (λ n. n * t) e, ap (λ n. n * t) f)))
-      (λ (f : b ≡ 1). (omega arith, omega (arith, ap (λ n. n * t) e, ap (λ n. n * t) f)))
-      (bit-cases b hb))
+    (λ (f : b ≡ 0). absurd (omega (arith, ap (λ n. n * t) e, ap (λ n. n * t) f)))
+    (λ (f : b ≡ 1). (omega arith, omega (arith, ap (λ n. n * t) e, ap (λ n. n * t) f)))
+    (bit-cases b hb))
     (bit-cases a ha)
 
 -- strings of one length that read alike are equal
@@ -78,7 +78,7 @@ read-same (x ∷ xs) (y ∷ ys) h i long e =
     let power : 2 ^ length ys ≡ t = ap (λ n. 2 ^ n) (sym same) in
     let last : read ys < t = omega (arith, read-lt ys (i .1), power) in
     let level : x * t + read xs ≡ y * t + read ys =
-        sym (read-cons x xs) ∙ e ∙ read-cons y ys ∙ ap (λ n. y * n + read ys) power in
+    sym (read-cons x xs) ∙ e ∙ read-cons y ys ∙ ap (λ n. y * n + read ys) power in
     let parts = lead-same t x y (read xs) (read ys) (h .0) (i .0) (read-lt xs (h .1)) last level in
     ap₂ _∷_ (parts .0) (read-same xs ys (h .1) (i .1) same (parts .1))
 
@@ -86,5 +86,5 @@ read-same (x ∷ xs) (y ∷ ys) h i long e =
 pub digits-more : (v k : ℕ) → v / 2 ^ k ≡ 2 * (v / 2 ^ (k + 1)) + (v / 2 ^ k) % 2
 digits-more v k =
     let e : v / 2 ^ k / 2 ≡ v / 2 ^ (k + 1) =
-        div-div-eq-div-mul v (2 ^ k) 2 ∙ ap (λ n. v / n) (sym (pow-suc 2 k) ∙ ap (λ n. 2 ^ n) (sym (add-one k))) in
+    div-div-eq-div-mul v (2 ^ k) 2 ∙ ap (λ n. v / n) (sym (pow-suc 2 k) ∙ ap (λ n. 2 ^ n) (sym (add-one k))) in
     omega (arith, e)

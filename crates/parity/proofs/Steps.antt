@@ -45,14 +45,14 @@ module _ (g : Generator) (sound : Sound g) where
       let x = 2 * r + b in
       ⊎-elim
       (λ (low : x < 2 ^ d).
-        subst (Leaves g (bits ++ (b ∷ []))) (sym (cond-true (ltb x (2 ^ d)) _ _ (lt-ltb x (2 ^ d) low)))
-        (pushed bits r b old hb 0 x (omega arith) low (ap (λ n. bitXor n x) (sym (ap (bitXor (2 * p)) (omega arith) ∙ xor-zero-r (2 * p))))))
+      subst (Leaves g (bits ++ (b ∷ []))) (sym (cond-true (ltb x (2 ^ d)) _ _ (lt-ltb x (2 ^ d) low)))
+      (pushed bits r b old hb 0 x (omega arith) low (ap (λ n. bitXor n x) (sym (ap (bitXor (2 * p)) (omega arith) ∙ xor-zero-r (2 * p))))))
       (λ (high : 2 ^ d ≤ x).
-        let s = bitXor (x - 2 ^ d) (g .taps) in
-        let under : x - 2 ^ d < 2 ^ d = omega (arith, old .small) in
-        let reduced : bitXor x (polynomial g) ≡ s =
-            ap (λ n. bitXor n (polynomial g)) (omega arith) ∙ xor-leading d (x - 2 ^ d) (g .taps) under (sound .below-leading) in
-        subst (Leaves g (bits ++ (b ∷ []))) (sym (cond-false (ltb x (2 ^ d)) _ _ (le-ltb x (2 ^ d) high)))
-        (pushed bits r b old hb 1 s (omega arith) (xor-lt d (x - 2 ^ d) (g .taps) under (sound .below-leading))
-          (sym (ap (λ n. bitXor n s) (ap (bitXor (2 * p)) (omega arith)) ∙ ap (bitXor (bitXor (2 * p) (polynomial g))) (sym reduced) ∙ xor-both (2 * p) (polynomial g) x))))
+      let s = bitXor (x - 2 ^ d) (g .taps) in
+      let under : x - 2 ^ d < 2 ^ d = omega (arith, old .small) in
+      let reduced : bitXor x (polynomial g) ≡ s =
+      ap (λ n. bitXor n (polynomial g)) (omega arith) ∙ xor-leading d (x - 2 ^ d) (g .taps) under (sound .below-leading) in
+      subst (Leaves g (bits ++ (b ∷ []))) (sym (cond-false (ltb x (2 ^ d)) _ _ (le-ltb x (2 ^ d) high)))
+      (pushed bits r b old hb 1 s (omega arith) (xor-lt d (x - 2 ^ d) (g .taps) under (sound .below-leading))
+      (sym (ap (λ n. bitXor n s) (ap (bitXor (2 * p)) (omega arith)) ∙ ap (bitXor (bitXor (2 * p) (polynomial g))) (sym reduced) ∙ xor-both (2 * p) (polynomial g) x))))
       (cases-lt x (2 ^ d))

@@ -34,9 +34,9 @@ module _ (p d : ℕ) (lead : 2 ^ d ≤ p) (top : p < 2 ^ (d + 1)) where
   large-step a b h l =
       ⊎-elim
       (λ (low : grow a b < 2 ^ (d + 1)).
-        let back : bitXor (grow a b) (b * p) ≡ 2 * a = xor-again (2 * a) (b * p) in
-        let under = xor-lt (d + 1) (grow a b) (b * p) low (multiple b h) in
-        absurd (omega (arith, back, under, twice, l)))
+      let back : bitXor (grow a b) (b * p) ≡ 2 * a = xor-again (2 * a) (b * p) in
+      let under = xor-lt (d + 1) (grow a b) (b * p) low (multiple b h) in
+      absurd (omega (arith, back, under, twice, l)))
       (λ (high : 2 ^ (d + 1) ≤ grow a b). omega (arith, twice, high))
       (cases-lt (grow a b) (2 ^ (d + 1)))
 
@@ -49,11 +49,11 @@ module _ (p d : ℕ) (lead : 2 ^ d ≤ p) (top : p < 2 ^ (d + 1)) where
   zero-or-large (b ∷ q) h =
       ⊎-elim
       (λ (e : b ≡ 0).
-        let z : grow 0 b ≡ 0 = ap (λ x. bitXor 0 (x * p)) e ∙ ap (bitXor 0) (zero-mul p) in
-        subst (λ (n : ℕ). (folded grow n q ≡ 0) ⊎ (2 ^ d ≤ folded grow n q)) (sym z) (zero-or-large q (h .1)))
+      let z : grow 0 b ≡ 0 = ap (λ x. bitXor 0 (x * p)) e ∙ ap (bitXor 0) (zero-mul p) in
+      subst (λ (n : ℕ). (folded grow n q ≡ 0) ⊎ (2 ^ d ≤ folded grow n q)) (sym z) (zero-or-large q (h .1)))
       (λ (e : b ≡ 1).
-        let o : grow 0 b ≡ p = ap (λ x. bitXor 0 (x * p)) e ∙ ap (bitXor 0) (one-mul p) ∙ xor-zero-l p in
-        inr (large-kept (grow 0 b) q (h .1) (omega (arith, o, lead))))
+      let o : grow 0 b ≡ p = ap (λ x. bitXor 0 (x * p)) e ∙ ap (bitXor 0) (one-mul p) ∙ xor-zero-l p in
+      inr (large-kept (grow 0 b) q (h .1) (omega (arith, o, lead))))
       (bit-cases b (h .0))
 
   abbrev added : List ℕ → List ℕ → List ℕ
@@ -71,10 +71,10 @@ module _ (p d : ℕ) (lead : 2 ^ d ≤ p) (top : p < 2 ^ (d + 1)) where
       ⊎-elim
       (λ (e : b ≡ 0). rw (e, zero-mul p, xor-zero-l (c * p), xor-zero-l c))
       (λ (e : b ≡ 1).
-        ⊎-elim
-        (λ (f : c ≡ 0). rw (e, f, zero-mul p, xor-zero-r (1 * p)))
-        (λ (f : c ≡ 1). rw (e, f) (xor-self (1 * p) ∙ sym (zero-mul p)))
-        (bit-cases c hc))
+      ⊎-elim
+      (λ (f : c ≡ 0). rw (e, f, zero-mul p, xor-zero-r (1 * p)))
+      (λ (f : c ≡ 1). rw (e, f) (xor-self (1 * p) ∙ sym (zero-mul p)))
+      (bit-cases c hc))
       (bit-cases b hb)
 
   doubled : (a c : ℕ) → bitXor (2 * a) (2 * c) ≡ 2 * bitXor a c
@@ -90,9 +90,9 @@ module _ (p d : ℕ) (lead : 2 ^ d ≤ p) (top : p < 2 ^ (d + 1)) where
   linear a c (x ∷ q) (y ∷ t) e h i =
       linear (grow a x) (grow c y) q t (omega arith) (h .1) (i .1)
       ∙ ap (λ n. folded grow n (added q t))
-        (xor-pairs (2 * a) (x * p) (2 * c) (y * p)
-        ∙ ap (λ n. bitXor n (bitXor (x * p) (y * p))) (doubled a c)
-        ∙ ap (bitXor (2 * bitXor a c)) (multiples x y (h .0) (i .0)))
+      (xor-pairs (2 * a) (x * p) (2 * c) (y * p)
+      ∙ ap (λ n. bitXor n (bitXor (x * p) (y * p))) (doubled a c)
+      ∙ ap (bitXor (2 * bitXor a c)) (multiples x y (h .0) (i .0)))
 
 pub one-remainder : (g : Generator) → Sound g → (bits : List ℕ) (r s : ℕ) → Leaves g bits r → Leaves g bits s → r ≡ s
 one-remainder g sound bits r s one two =
@@ -104,13 +104,13 @@ one-remainder g sound bits r s one two =
     let b = product (two .quotient) p in
     let level : bitXor a r ≡ bitXor b s = sym (one .whole) ∙ two .whole in
     let both : bitXor a b ≡ bitXor r s =
-        xor-equal (bitXor a b) (bitXor r s) (xor-pairs a b r s ∙ ap (λ n. bitXor n (bitXor b s)) level ∙ xor-self (bitXor b s)) in
+    xor-equal (bitXor a b) (bitXor r s) (xor-pairs a b r s ∙ ap (λ n. bitXor n (bitXor b s)) level ∙ xor-self (bitXor b s)) in
     let q = added p d lead top (one .quotient) (two .quotient) in
     let sum : bitXor a b ≡ product q p =
-        linear p d lead top 0 0 (one .quotient) (two .quotient) (one .long ∙ sym (two .long)) (one .binary) (two .binary) in
+    linear p d lead top 0 0 (one .quotient) (two .quotient) (one .long ∙ sym (two .long)) (one .binary) (two .binary) in
     let under : bitXor r s < 2 ^ d = xor-lt d r s (one .small) (two .small) in
     xor-equal r s
     (⊎-elim
-      (λ (z : product q p ≡ 0). sym both ∙ sum ∙ z)
-      (λ (l : 2 ^ d ≤ product q p). absurd (omega (arith, both, sum, under, l)))
-      (zero-or-large p d lead top q (added-bits p d lead top (one .quotient) (two .quotient) (one .binary) (two .binary))))
+    (λ (z : product q p ≡ 0). sym both ∙ sum ∙ z)
+    (λ (l : 2 ^ d ≤ product q p). absurd (omega (arith, both, sum, under, l)))
+    (zero-or-large p d lead top q (added-bits p d lead top (one .quotient) (two .quotient) (one .binary) (two .binary))))

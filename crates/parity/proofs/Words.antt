@@ -7,12 +7,12 @@ use lib.Bits.{bitXor, xor-shifted, xor-assoc, xor-lt}
 use lib.ListN.{length, take, drop, replicate, length-append, length-drop, take-append-drop}
 use Rattle.std.proofs.shelf.Elements.{all-append, all-drop}
 use Rattle.std.proofs.shelf.Lists.{take-at}
-use Rattle.code.specs.Bits.{Bits}
-use Rattle.code.specs.Part.{Limits, Sound}
+use Rattle.code.specs.Bits.{Bits, Bit-string}
+use Rattle.code.specs.Part.{Limits, Message, Sound}
 use Rattle.code.specs.declared.part.Generator.{Generator}
 use Rattle.code.specs.declared.part.Rule.{Rule}
 use Rattle.parity.specs.Division.{Leaves, all-ones, read, product, polynomial}
-use Rattle.parity.specs.Parity.{Follows, The-word-of}
+use Rattle.parity.specs.Parity.{Right-parity, The-word-of}
 use Rattle.parity.proofs.Digits.{read-append, read-lt, read-same}
 use Rattle.parity.proofs.Unique.{one-remainder}
 use Rattle.parity.proofs.Xor.{xor-again, xor-nothing, xor-equal}
@@ -35,15 +35,15 @@ module _ (g : Generator) (m p q : List ℕ) (bits-p : Bits p) (bits-q : Bits q) 
       let small-p : read p < 2 ^ d = rw long-p at (read-lt p bits-p) in
       let small-q : read q < 2 ^ d = rw long-q at (read-lt q bits-q) in
       let front : read m * 2 ^ d ≡ bitXor (bitXor a s) (read p) =
-          sym (xor-again (read m * 2 ^ d) (read p)) ∙ ap (λ n. bitXor n (read p)) (sym (shifted p bits-p long-p) ∙ old .whole) in
+      sym (xor-again (read m * 2 ^ d) (read p)) ∙ ap (λ n. bitXor n (read p)) (sym (shifted p bits-p long-p) ∙ old .whole) in
       record {
         quotient = old .quotient;
         binary = old .binary;
         long = old .long ∙ length-append m p ∙ ap (λ n. length m + n) (long-p ∙ sym long-q) ∙ sym (length-append m q);
         small = xor-lt d s (bitXor (read p) (read q)) (old .small) (xor-lt d (read p) (read q) small-p small-q);
         whole =
-          shifted q bits-q long-q ∙ ap (λ n. bitXor n (read q)) front
-          ∙ xor-assoc (bitXor a s) (read p) (read q) ∙ xor-assoc a s (bitXor (read p) (read q));
+            shifted q bits-q long-q ∙ ap (λ n. bitXor n (read q)) front
+            ∙ xor-assoc (bitXor a s) (read p) (read q) ∙ xor-assoc a s (bitXor (read p) (read q));
       }
 
   -- one parity leaves one remainder
@@ -53,26 +53,23 @@ module _ (g : Generator) (m p q : List ℕ) (bits-p : Bits p) (bits-q : Bits q) 
       read-same p q bits-p bits-q (long-p ∙ sym long-q) (xor-equal (read p) (read q) (xor-nothing s (bitXor (read p) (read q)) differ))
 
 -- a message and parity that leaves every coefficient 1 are the message's one word
-pub the-word : (rule : Rule) → Limits rule → (m w : List ℕ) → Bits m → length m ≡ rule .message → Follows (rule .generator) m w → The-word-of rule m w
-the-word rule limits m w bits-m long-m follows =
+pub the-word : (rule : Rule) → Limits rule → (m p : List ℕ) → Message rule m → Bit-string (rule .generator .degree) p → Right-parity rule (m ++ p) → The-word-of rule m (m ++ p)
+the-word rule limits m p message parity right =
     let g = rule .generator in
-    let p = follows .parity in
-    subst (The-word-of rule m) (sym (follows .whole))
-    (record {
+    record {
       is = record {
         word = record {
-          long = length-append m p ∙ omega (arith, long-m, follows .long, limits .message-and-parity);
-          bits = all-append (λ b. b < 2) m p bits-m (follows .bits);
+          long = length-append m p ∙ omega (arith, message .long, parity .long, limits .message-and-parity);
+          bits = all-append (λ b. b < 2) m p (message .bits) (parity .bits);
         };
-        begins = take-at m p (rule .message) long-m;
-        right = follows .right;
+        begins = take-at m p (rule .message) (message .long);
+        right = right;
       };
       only = λ v other.
-        let q = drop (rule .message) v in
-        let whole : m ++ q ≡ v = ap (λ (t : List ℕ). t ++ q) (sym (other .begins)) ∙ take-append-drop (rule .message) v in
-        let long-q : length q ≡ g .degree = length-drop (rule .message) v ∙ omega (arith, other .word .long, limits .message-and-parity) in
-        let bits-q : Bits q = all-drop (λ b. b < 2) (rule .message) v (other .word .bits) in
-        let right-q = subst (λ (t : List ℕ). Leaves g t (all-ones g)) (sym whole) (other .right) in
-        let same = one-parity g m p q (follows .bits) bits-q (follows .long) long-q (limits .generator) (all-ones g) (follows .right) right-q in
-        sym whole ∙ ap (λ (t : List ℕ). m ++ t) (sym same);
-    })
+          let q = drop (rule .message) v in
+          let whole : m ++ q ≡ v = ap (λ (t : List ℕ). t ++ q) (sym (other .begins)) ∙ take-append-drop (rule .message) v in
+          let long-q : length q ≡ g .degree = length-drop (rule .message) v ∙ omega (arith, other .word .long, limits .message-and-parity) in
+          let bits-q : Bits q = all-drop (λ b. b < 2) (rule .message) v (other .word .bits) in
+          let same = one-parity g m p q (parity .bits) bits-q (parity .long) long-q (limits .generator) (all-ones g) right (subst (Right-parity rule) (sym whole) (other .right)) in
+          sym whole ∙ ap (λ (t : List ℕ). m ++ t) (sym same);
+    }

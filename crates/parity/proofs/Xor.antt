@@ -17,7 +17,7 @@ xor-double t r b h =
     let m : r * 2 + b ≡ 2 * r + b = omega arith in
     let z : bitXor 0 b ≡ b = xor-zero-l b in
     let f : bitXor (2 * t) (2 * r + b) ≡ bitXor t r * 2 + b =
-        ap (λ x. bitXor x (2 * r + b)) (sym l) ∙ ap (λ y. bitXor (t * 2 + 0) y) (sym m) ∙ e ∙ ap (λ y. bitXor t r * 2 + y) z in
+    ap (λ x. bitXor x (2 * r + b)) (sym l) ∙ ap (λ y. bitXor (t * 2 + 0) y) (sym m) ∙ e ∙ ap (λ y. bitXor t r * 2 + y) z in
     omega arith
 
 -- what was added is taken off by adding it again

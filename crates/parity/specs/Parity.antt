@@ -1,16 +1,15 @@
 -- Right parity, and the word of a message.
 use mathlib.Core.Bool.{Bool}
-use mathlib.Core.List.{List, _++_}
+use mathlib.Core.List.{List}
 use mathlib.Core.Path.{_≡_}
 use Prim.Native.Nat.{ℕ}
-use lib.ListN.{length, take}
+use lib.ListN.{take}
 use Rattle.std.specs.Orderings.{Decides}
 use Rattle.std.specs.declared.result.Result.{Result}
 use Rattle.std.specs.declared.result.Result.the-variants.{Ok, Err}
 use Rattle.fault.specs.declared.ParityFault.{ParityFault}
-use Rattle.code.specs.Bits.{Bits, string-check}
+use Rattle.code.specs.Bits.{string-check}
 use Rattle.code.specs.Part.{Word}
-use Rattle.code.specs.declared.part.Generator.{Generator}
 use Rattle.code.specs.declared.part.Rule.{Rule}
 use Rattle.parity.specs.Division.{Leaves, all-ones}
 
@@ -33,11 +32,3 @@ pub record The-word-of (rule : Rule) (m w : List ℕ) : Type 0 where
 abbrev pub Judged : Rule → List ℕ → Result Bool ParityFault → Type 0
 Judged rule w (Ok right) = (string-check w (rule .word) ≡ Ok tt) × Decides right (Right-parity rule w)
 Judged rule w (Err fault) = string-check w (rule .word) ≡ Err fault
-
--- a message, and behind it bits with which division by g leaves every coefficient 1
-pub record Follows (g : Generator) (m w : List ℕ) : Type 0 where
-  pub parity : List ℕ
-  pub bits : Bits parity
-  pub long : length parity ≡ g .degree
-  pub whole : w ≡ m ++ parity
-  pub right : Leaves g (m ++ parity) (all-ones g)

@@ -1,17 +1,15 @@
 // Parity by division of polynomials over GF(2), for any code part.
-ghost use mathlib.Core.Bool.{true};
 ghost use mathlib.Core.List.{_++_};
 ghost use mathlib.Core.Path.{_≡_};
-ghost use Prim.Native.Nat.{ℕ, _+_, _^_, _<_, _≤_};
+ghost use Prim.Native.Nat.{ℕ, _^_, _<_, _≤_};
 ghost use lib.Bits.{bitXor};
 ghost use lib.ListN.{length, replicate};
 ghost use Rattle.std.specs.Orderings.{Decides};
-ghost use Rattle.std.specs.Results.{isOk, isErr};
+ghost use Rattle.std.specs.Vec.{made, refused};
 ghost use Rattle.code.specs.Bits.{Bits, writing-check};
-ghost use Rattle.code.specs.Part.{Sound};
+ghost use Rattle.code.specs.Part.{Message, Sound, Word};
 ghost use Rattle.parity.specs.Division.{Leaves, all-ones, next, read};
-ghost use Rattle.parity.specs.Parity.{Follows, Judged, The-word-of};
-
+ghost use Rattle.parity.specs.Parity.{Judged, Right-parity, The-word-of};
 use code::CodePart;
 use code::Generator;
 use code::check_string;
@@ -21,12 +19,16 @@ use fault::ParityFault;
 // Writes the parity bits of a message of a part. It checks the message's length, the output's, then the message's bits.
 pub fn parity<C: CodePart>(part: &C, message: &[u8], out: &mut [u8]) -> Result<(), ParityFault>
     ensures refusal { λ r. ⌜ r ≡ writing-check (now (message .entry)) (rule (now (part .entry)) .message) (length (now (out .entry))) (rule (now (part .entry)) .generator .degree) ⌝ }
-    ensures same { λ r. ⌜ (isErr r ≡ true → now (out .exit) ≡ now (out .entry)) ⌝ }
-    ensures after { λ r. ⌜ (isOk r ≡ true → The-word-of (rule (now (part .entry))) (now (message .entry)) (now (message .entry) ++ now (out .exit))) ⌝ }
+    ensures same { λ r. ⌜ refused r (λ _. now (out .exit) ≡ now (out .entry)) ⌝ }
+    ensures after { λ r. ⌜ made r (λ _. The-word-of (rule (now (part .entry))) (now (message .entry)) (now (message .entry) ++ now (out .exit))) ⌝ }
 {
-    let generator = part.generator();
-    check_writing(message, part.message_length(), out.len(), generator.degree as usize)?;
-    write_parity(generator, message, out);
+    check_writing(
+        message,
+        part.message_length(),
+        out.len(),
+        part.generator().degree as usize,
+    )?;
+    write_parity(part, message, out);
     Ok(())
 }
 
@@ -34,11 +36,16 @@ pub fn parity<C: CodePart>(part: &C, message: &[u8], out: &mut [u8]) -> Result<(
 // message's bits.
 pub fn protect<C: CodePart>(part: &C, message: &[u8], word: &mut [u8]) -> Result<(), ParityFault>
     ensures refusal { λ r. ⌜ r ≡ writing-check (now (message .entry)) (rule (now (part .entry)) .message) (length (now (word .entry))) (rule (now (part .entry)) .word) ⌝ }
-    ensures same { λ r. ⌜ (isErr r ≡ true → now (word .exit) ≡ now (word .entry)) ⌝ }
-    ensures after { λ r. ⌜ (isOk r ≡ true → The-word-of (rule (now (part .entry))) (now (message .entry)) (now (word .exit))) ⌝ }
+    ensures same { λ r. ⌜ refused r (λ _. now (word .exit) ≡ now (word .entry)) ⌝ }
+    ensures after { λ r. ⌜ made r (λ _. The-word-of (rule (now (part .entry))) (now (message .entry)) (now (word .exit))) ⌝ }
 {
-    check_writing(message, part.message_length(), word.len(), part.word_length())?;
-    write_word(part.generator(), message, word);
+    check_writing(
+        message,
+        part.message_length(),
+        word.len(),
+        part.word_length(),
+    )?;
+    write_word(part, message, word);
     Ok(())
 }
 
@@ -47,28 +54,63 @@ pub fn parity_right<C: CodePart>(part: &C, word: &[u8]) -> Result<bool, ParityFa
     ensures value { λ r. ⌜ Judged (rule (now (part .entry))) (now (word .entry)) r ⌝ }
 {
     check_string(word, part.word_length())?;
-    let generator = part.generator();
-    Ok(remainder(generator, word) == ones(generator))
+    Ok(leaves_ones(part.generator(), word))
 }
 
-// The polynomial with every coefficient 1.
-fn ones(generator: Generator) -> u32
-    requires sound { ⌜ Sound generator ⌝ }
-    ensures value { λ r. ⌜ r ≡ all-ones generator ⌝ }
+// Writes the parity of a message.
+fn write_parity<C: CodePart>(part: &C, message: &[u8], out: &mut [u8])
+    requires message { ⌜ Message (rule (now part)) (now message) ⌝ }
+    requires room { ⌜ length (now out) ≡ rule (now part) .generator .degree ⌝ }
+    ensures after { λ _. ⌜ The-word-of (rule (now (part .entry))) (now (message .entry)) (now (message .entry) ++ now (out .exit)) ⌝ }
 {
-    (1 << generator.degree) - 1
+    write_number(parity_number(part.generator(), message), out);
 }
 
-// What a division has left after one more bit.
-fn step(generator: Generator, register: u32, bit: u8) -> u32
-    requires sound { ⌜ Sound generator ⌝ }
-    requires small { ⌜ register < 2 ^ generator .degree ⌝ }
-    requires binary { ⌜ bit < 2 ⌝ }
-    ensures value { λ r. ⌜ r ≡ next generator register bit ⌝ }
+// Writes a message and its parity.
+fn write_word<C: CodePart>(part: &C, message: &[u8], word: &mut [u8])
+    requires message { ⌜ Message (rule (now part)) (now message) ⌝ }
+    requires room { ⌜ length (now word) ≡ rule (now part) .word ⌝ }
+    ensures after { λ _. ⌜ The-word-of (rule (now (part .entry))) (now (message .entry)) (now (word .exit)) ⌝ }
 {
-    let shifted = 2 * register + u32::from(bit);
-    let leading = 1 << generator.degree;
-    if shifted < leading { shifted } else { (shifted - leading) ^ generator.taps }
+    let m = message.len();
+    word[0..m].copy_from_slice(message);
+    write_parity(part, message, &mut word[m..]);
+}
+
+// Writes a number in bits, the highest first.
+fn write_number(number: u32, out: &mut [u8])
+    requires fits { ⌜ number < 2 ^ length (now out) ⌝ }
+    requires room { ⌜ length (now out) ≤ 24 ⌝ }
+    ensures bits { λ _. ⌜ Bits (now (out .exit)) ⌝ }
+    ensures after { λ _. ⌜ read (now (out .exit)) ≡ number ⌝ }
+{
+    let n = out.len();
+    for (i, bit) in out.iter_mut().enumerate() {
+        *bit = ((number >> (n - 1 - i)) & 1) as u8;
+    }
+}
+
+// The parity of a message as a number: what it lacks before every coefficient of the remainder is 1.
+fn parity_number(generator: Generator, message: &[u8]) -> u32
+    requires sound { ⌜ Sound generator ⌝ }
+    requires binary { ⌜ Bits (now message) ⌝ }
+    ensures bound { λ r. ⌜ r < 2 ^ generator .degree ⌝ }
+    ensures leaves { λ r. ⌜ Leaves generator (now (message .entry) ++ replicate (generator .degree) 0) (bitXor (all-ones generator) r) ⌝ }
+{
+    let mut register = remainder(generator, message);
+    for _zero in 0..generator.degree {
+        register = step(generator, register, 0);
+    }
+    register ^ ones(generator)
+}
+
+// Whether division of the bits leaves every coefficient 1.
+fn leaves_ones(generator: Generator, bits: &[u8]) -> bool
+    requires sound { ⌜ Sound generator ⌝ }
+    requires binary { ⌜ Bits (now bits) ⌝ }
+    ensures value { λ r. ⌜ Decides r (Leaves generator (now (bits .entry)) (all-ones generator)) ⌝ }
+{
+    remainder(generator, bits) == ones(generator)
 }
 
 // What division of the bits by the generator leaves, and nothing else does.
@@ -85,52 +127,66 @@ fn remainder(generator: Generator, bits: &[u8]) -> u32
     register
 }
 
-// The parity of a message as a number: what the message lacks before every coefficient of the remainder is 1.
-fn parity_number(generator: Generator, message: &[u8]) -> u32
+// What a division has left after one more bit.
+fn step(generator: Generator, register: u32, bit: u8) -> u32
     requires sound { ⌜ Sound generator ⌝ }
-    requires binary { ⌜ Bits (now message) ⌝ }
-    ensures bound { λ r. ⌜ r < 2 ^ generator .degree ⌝ }
-    ensures leaves { λ r. ⌜ Leaves generator (now (message .entry) ++ replicate (generator .degree) 0) (bitXor (all-ones generator) r) ⌝ }
+    requires small { ⌜ register < 2 ^ generator .degree ⌝ }
+    requires binary { ⌜ bit < 2 ⌝ }
+    ensures value { λ r. ⌜ r ≡ next generator register bit ⌝ }
 {
-    let mut register = remainder(generator, message);
-    for _zero in 0..generator.degree {
-        register = step(generator, register, 0);
-    }
-    register ^ ones(generator)
-}
-
-// Writes a number in bits, the highest first.
-fn write_number(number: u32, out: &mut [u8])
-    requires fits { ⌜ number < 2 ^ length (now out) ⌝ }
-    requires room { ⌜ length (now out) ≤ 24 ⌝ }
-    ensures bits { λ _. ⌜ Bits (now (out .exit)) ⌝ }
-    ensures after { λ _. ⌜ read (now (out .exit)) ≡ number ⌝ }
-{
-    let n = out.len();
-    for (i, bit) in out.iter_mut().enumerate() {
-        *bit = ((number >> (n - 1 - i)) & 1) as u8;
+    let shifted = 2 * register + u32::from(bit);
+    let leading = 1 << generator.degree;
+    if shifted < leading {
+        shifted
+    } else {
+        (shifted - leading) ^ generator.taps
     }
 }
 
-// Writes the parity of a message.
-fn write_parity(generator: Generator, message: &[u8], out: &mut [u8])
+// The polynomial with every coefficient 1.
+fn ones(generator: Generator) -> u32
     requires sound { ⌜ Sound generator ⌝ }
-    requires binary { ⌜ Bits (now message) ⌝ }
-    requires room { ⌜ length (now out) ≡ generator .degree ⌝ }
-    ensures bits { λ _. ⌜ Bits (now (out .exit)) ⌝ }
-    ensures right { λ _. ⌜ Leaves generator (now (message .entry) ++ now (out .exit)) (all-ones generator) ⌝ }
+    ensures value { λ r. ⌜ r ≡ all-ones generator ⌝ }
 {
-    write_number(parity_number(generator, message), out);
+    (1 << generator.degree) - 1
 }
 
-// Writes a message and its parity.
-fn write_word(generator: Generator, message: &[u8], word: &mut [u8])
-    requires sound { ⌜ Sound generator ⌝ }
-    requires binary { ⌜ Bits (now message) ⌝ }
-    requires room { ⌜ length (now word) ≡ length (now message) + generator .degree ⌝ }
-    ensures after { λ _. ⌜ Follows generator (now (message .entry)) (now (word .exit)) ⌝ }
-{
-    let m = message.len();
-    word[0..m].copy_from_slice(message);
-    write_parity(generator, message, &mut word[m..]);
+#[cfg(test)]
+mod tests {
+    use super::*;
+    use code::EcPart;
+    use code::EcPartCode;
+    use fault::ParityFaultDebug;
+    use fault::ParityFaultPartialEq;
+    use std::test::*;
+
+    #[test]
+    fn the_zero_header_has_parity_of_ones() -> Result<(), Fail> {
+        let mut bits = [0u8; 8];
+        parity(&EcPart::McsHeader, &[0; 16], &mut bits)?;
+        check_eq(bits, [1; 8])
+    }
+
+    #[test]
+    fn a_word_is_right_until_a_bit_is_turned() -> Result<(), Fail> {
+        let mut word = [0u8; 24];
+        protect(
+            &EcPart::McsHeader,
+            &[1, 0, 1, 1, 0, 0, 1, 0, 1, 0, 0, 0, 1, 1, 1, 0],
+            &mut word,
+        )?;
+        check(parity_right(&EcPart::McsHeader, &word)?)?;
+        word[5] = 1 - (word[5] & 1);
+        check(!parity_right(&EcPart::McsHeader, &word)?)
+    }
+
+    #[test]
+    fn the_message_is_checked_before_the_word() -> Result<(), Fail> {
+        let mut word = [7u8; 23];
+        let refusal = protect(&EcPart::McsHeader, &[0; 15], &mut word);
+        check_eq(refusal, Err(ParityFault::Length { buffer: 1 }))?;
+        let refusal = protect(&EcPart::McsHeader, &[3; 16], &mut word);
+        check_eq(refusal, Err(ParityFault::Length { buffer: 2 }))?;
+        check_eq(word, [7; 23])
+    }
 }

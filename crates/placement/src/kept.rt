@@ -10,5 +10,9 @@ pub fn header_place(entry: usize) -> Option<usize>
     ensures value { λ r. ⌜ r ≡ nth header-kept entry ⌝ }
     ensures within { λ r. ⌜ ((c : ℕ) → r ≡ Some c → c < 72) ⌝ }
 {
-    if entry < 48 { Some(3 * (entry / 2) + entry % 2) } else { None }
+    if entry < 48 {
+        Some(3 * (entry / 2) + entry % 2)
+    } else {
+        None
+    }
 }

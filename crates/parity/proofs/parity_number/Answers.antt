@@ -18,7 +18,7 @@ loop-zero-again c =
     let r = c .loop-zero .register in
     let more = leaves-more g (c .pre .sound) (message ++ replicate {A = ℕ} i 0) r 0 (c .loop-zero .inv) (omega arith) in
     let longer : (message ++ replicate {A = ℕ} i 0) ++ (0 ∷ []) ≡ message ++ replicate {A = ℕ} (i + 1) 0 =
-        append-assoc message (replicate {A = ℕ} i 0) (0 ∷ []) ∙ ap (λ (t : List ℕ). message ++ t) (replicate-more {X = ℕ} i 0) in
+    append-assoc message (replicate {A = ℕ} i 0) (0 ∷ []) ∙ ap (λ (t : List ℕ). message ++ t) (replicate-more {X = ℕ} i 0) in
     rw (c .step-register .ensures .value) (subst (λ (t : List ℕ). Leaves g t (next g r 0)) longer more)
 
 pub returns : need.returns

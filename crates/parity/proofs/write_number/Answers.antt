@@ -36,9 +36,10 @@ loop-i-again c =
     let before : read (take i out) ≡ v / 2 ^ (k + 1) = c .loop-i .inv .1 ∙ ap (λ m. v / 2 ^ m) here in
     let more : read (take i out ++ (b ∷ [])) ≡ 2 * read (take i out) + b = folded-push (λ x y. 2 * x + y) 0 (take i out) b in
     let written : read (take i out ++ (b ∷ [])) ≡ v / 2 ^ k = omega (arith, more, before, bit, digits-more v k) in
-    let longer = take-more-set out i b inside in
-    (subst Bits (sym longer) (all-push (λ x. x < 2) (take i out) b (c .loop-i .inv .0) (omega (arith, bit))),
-     ap read longer ∙ written ∙ ap (λ m. v / 2 ^ m) (sym there))
+    let longer = take-more-set out i b inside in (
+      subst Bits (sym longer) (all-push (λ x. x < 2) (take i out) b (c .loop-i .inv .0) (omega (arith, bit))),
+      ap read longer ∙ written ∙ ap (λ m. v / 2 ^ m) (sym there),
+    )
 
 pub returns : need.returns
 returns c =

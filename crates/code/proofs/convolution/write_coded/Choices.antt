@@ -5,4 +5,4 @@ use Rattle.code.specs.Convolution.{coded}
 use Rattle.code.proofs.convolution.write_coded.Given as given
 
 abbrev pub Inv-loop-place : given.InvT-loop-place
-Inv-loop-place l = (k : ℕ) → k < l .place → getD (l .out) k 0 ≡ coded (l .ending) (l .word) k
+Inv-loop-place g l = (k : ℕ) → k < l .place → getD (l .out) k 0 ≡ coded (l .ending) (l .word) k

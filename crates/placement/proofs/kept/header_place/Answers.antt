@@ -33,7 +33,7 @@ returns-then-entry-lt48 c =
     }
 
 pub returns-else-entry-lt48 : need.returns-else-entry-lt48
-returns-else-entry-lt48 c = 
+returns-else-entry-lt48 c =
     record {
       value = sym (nth-past header-kept (c .args .entry) (omega (arith, long)));
       within = λ n e. let z : _≡_ {A = ℕ} 0 1 = cc in absurd (omega arith);
