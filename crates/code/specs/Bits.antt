@@ -2,14 +2,14 @@
 use mathlib.Core.Bool.{Bool, cond}
 use mathlib.Core.List.{List, [], _∷_}
 use mathlib.Core.Path.{_≡_}
-use Prim.Native.Nat.{ℕ, _+_, _%_, _<_}
+use Prim.Native.Nat.{ℕ, _+_, _%_, _<_, _≤_}
 use lib.Dec.{eqb, ltb}
-use lib.ListN.{length}
+use lib.ListN.{length, getD}
 use Rattle.std.specs.declared.result.Result.{Result}
 use Rattle.std.specs.declared.result.Result.the-variants.{Ok, Err}
 use Rattle.std.specs.shelf.Lists.{All}
 use Rattle.fault.specs.declared.ParityFault.{ParityFault}
-use Rattle.fault.specs.declared.ParityFault.the-variants.{Length, NotABit}
+use Rattle.fault.specs.declared.ParityFault.the-variants.{Length, NotABit, WrongParity}
 
 abbrev pub Bits : List ℕ → Type 0
 Bits = All (λ b. b < 2)
@@ -44,6 +44,13 @@ bits-check-from i (b ∷ bs) = unless (ltb b 2) (NotABit i) (bits-check-from (i 
 
 abbrev pub bits-check : List ℕ → Checked
 bits-check = bits-check-from 0
+
+-- every byte is a bit, or i is the first that is none
+abbrev pub First-no-bit : List ℕ → Checked → Type 0
+First-no-bit bytes (Ok _) = (k : ℕ) → k < length bytes → getD bytes k 0 < 2
+First-no-bit bytes (Err (Length buffer)) = ⊥
+First-no-bit bytes (Err (NotABit i)) = (i < length bytes) × (2 ≤ getD bytes i 0) × ((k : ℕ) → k < i → getD bytes k 0 < 2)
+First-no-bit bytes (Err (WrongParity part cost)) = ⊥
 
 -- a call that reads a string of bits: its length, then the bits
 abbrev pub string-check : List ℕ → ℕ → Checked

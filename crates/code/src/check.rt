@@ -2,7 +2,7 @@
 ghost use mathlib.Core.Path.{_≡_};
 ghost use Rattle.std.specs.Vec.{made};
 ghost use Rattle.std.specs.declared.result.Result.the-variants.{Ok};
-ghost use Rattle.code.specs.Bits.{Bit-string, length-check, bits-check, string-check, writing-check};
+ghost use Rattle.code.specs.Bits.{Bit-string, First-no-bit, length-check, string-check, writing-check};
 use fault::ParityFault;
 
 // A call that reads a string of bits checks its length, then the bits.
@@ -37,7 +37,7 @@ fn check_length(buffer: u8, given: usize, asked: usize) -> Result<(), ParityFaul
 
 // Every byte is 0 or 1, or the first that is not is told.
 fn check_bits(bytes: &[u8]) -> Result<(), ParityFault>
-    ensures value { λ r. ⌜ r ≡ bits-check (now (bytes .entry)) ⌝ }
+    ensures value { λ r. ⌜ First-no-bit (now (bytes .entry)) r ⌝ }
 {
     for (index, byte) in bytes.iter().enumerate() {
         if *byte > 1 {

@@ -28,8 +28,8 @@ returns-then-entry-lt48 c =
     let inside : j < length header-kept = omega (arith, long) in
     let place = eqb-true (getD header-kept j 0) _ (tested-at 48 by-formula all-by-formula j (c .if-entry-lt48 .taken)) in
     record {
-      value = sym (nth-getD header-kept j 0 inside ∙ ap Some place);
-      within = λ n e. let same : 3 * (j / 2) + j % 2 ≡ n = cc in omega arith;
+      value = sym (nth-getD header-kept j 0 inside ∙ ap Some (place ∙ sym (c .two-of-three .ensures .value)));
+      within = λ n e. let same : c .two-of-three .result ≡ n = cc in omega arith;
     }
 
 pub returns-else-entry-lt48 : need.returns-else-entry-lt48
