@@ -1,20 +1,15 @@
 // A console for the codec: one command a line on standard input, each answered on standard output.
 ghost use mathlib.Core.Logic.{_⊎_};
 ghost use mathlib.Core.Path.{_≡_};
-ghost use Rattle.std.specs.Of.String.{string-bytes};
 ghost use Rattle.std.specs.Of.Vec.{vec-items};
 ghost use Rattle.std.specs.Results.{Cases};
-ghost use Rattle.std.specs.Vec.{made};
 ghost use Rattle.ecbox.specs.declared.Misread.the-variants.{NoMemory, NotBits};
 ghost use Rattle.ecbox.specs.Digits.{Digits, digit-values};
-ghost use Rattle.ecbox.specs.Line.{bit-code, bit-codes, refusal-line};
 
 mod header;
+mod text;
 
-use code::CodePart;
-use fault::DetailDisplay;
 use fault::Fault;
-use fault::LayerDisplay;
 use header::Stages;
 use header::take_through;
 use std::alloc::AllocError;
@@ -25,6 +20,8 @@ use std::fmt;
 use std::io::BufRead;
 use std::io::BufReader;
 use std::str::from_utf8;
+use text::bits_text;
+use text::refusal_text;
 
 // What a line asks for.
 #[derive(Drop)]
@@ -74,23 +71,6 @@ impl fmt::Display for Misread as MisreadDisplay {
         };
         write!(f, "{words}")
     }
-}
-
-fn bit_char(bit: u8) -> char
-    ensures value { λ r. ⌜ r ≡ bit-code bit ⌝ }
-{
-    if bit == 0 { '0' } else { '1' }
-}
-
-// Bits written 0 and 1, first bit first.
-fn bits_text(heap: Global, bits: &[u8]) -> Result<String, AllocError>
-    ensures made { λ r. ⌜ made r (λ text. string-bytes text ≡ bit-codes (now (bits .entry))) ⌝ }
-{
-    let mut text = String::new(heap);
-    for bit in bits {
-        text.push(bit_char(*bit))?;
-    }
-    Ok(text)
 }
 
 // The digits of a text as numbers.
@@ -147,18 +127,8 @@ fn say_stages(rt: &LibcRuntime, message: &[u8], stages: &Stages) -> Result<(), A
     say_stage(rt, "kept", &stages.kept)
 }
 
-// A refusal as the console writes it.
-fn refusal(heap: Global, fault: Fault) -> Result<String, AllocError>
-    ensures made { λ r. ⌜ made r (λ line. string-bytes line ≡ refusal-line fault) ⌝ }
-{
-    let number = fault.number();
-    let layer = fault.layer();
-    let detail = fault.detail();
-    format!(heap, "refused {number} {layer} {detail}")
-}
-
 fn say_refusal(rt: &LibcRuntime, fault: Fault) -> Result<(), AnyError> {
-    let line = refusal(rt.alloc(), fault)?;
+    let line = refusal_text(rt.alloc(), fault)?;
     println!(rt, "{line}")?;
     Ok(())
 }

@@ -4,15 +4,10 @@ use Rattle.fault.specs.declared.Layer.{Layer}
 use Rattle.fault.specs.declared.Layer.the-variants as layers
 use Rattle.fault.specs.declared.Detail.{Detail}
 use Rattle.fault.specs.declared.Detail.the-variants.{Number, PartAndCost}
-use Rattle.fault.specs.declared.ValueFault.{ValueFault}
 use Rattle.fault.specs.declared.ValueFault.the-variants as value
-use Rattle.fault.specs.declared.ParityFault.{ParityFault}
 use Rattle.fault.specs.declared.ParityFault.the-variants as parity
-use Rattle.fault.specs.declared.PlacementFault.{PlacementFault}
 use Rattle.fault.specs.declared.PlacementFault.the-variants as placement
-use Rattle.fault.specs.declared.ReceiverFault.{ReceiverFault}
 use Rattle.fault.specs.declared.ReceiverFault.the-variants as receiver
-use Rattle.fault.specs.declared.TimingFault.{TimingFault}
 use Rattle.fault.specs.declared.TimingFault.the-variants as timing
 use Rattle.fault.specs.declared.Fault.{Fault}
 use Rattle.fault.specs.declared.Fault.the-variants.{Value, Parity, Placement, Receiver, Timing}

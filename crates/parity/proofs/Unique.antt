@@ -5,7 +5,7 @@ use mathlib.Core.Path.{_≡_, refl, sym, ap, _∙_, subst}
 use Prim.Native.Nat.{ℕ, _+_, _*_, _^_, _<_, _≤_}
 use native.Mathlib.Nat.{zero-mul, one-mul}
 use native.Mathlib.Omega.{arith}
-use lib.Bits.{bitXor, xor-zero-l, xor-zero-r, xor-self, xor-comm, xor-assoc, xor-lt}
+use lib.Bits.{bitXor, xor-zero-l, xor-zero-r, xor-self, xor-lt}
 use lib.ListN.{length}
 use lib.Pow.{pow-pos, pow-add}
 use Rattle.std.specs.Iters.{folded}

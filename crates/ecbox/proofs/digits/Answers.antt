@@ -1,10 +1,9 @@
 use mathlib.Core.List.{List, [], _∷_, _++_}
 use mathlib.Core.Logic.{inr}
-use mathlib.Core.Path.{_≡_, refl, sym, ap, _∙_, subst}
+use mathlib.Core.Path.{refl, sym, ap, _∙_, subst}
 use native.Mathlib.Omega.{arith}
-use Prim.Native.Nat.{ℕ, _<_, _-_}
-use lib.ListN.{length, getD, take}
-use Rattle.std.specs.Of.Vec.{vec-items}
+use Prim.Native.Nat.{ℕ, _-_}
+use lib.ListN.{getD}
 use Rattle.std.proofs.shelf.Elements.{all-getD, all-more}
 use Rattle.std.proofs.shelf.Lists.{map-more, take-all}
 use Rattle.ecbox.specs.Digits.{Digit, Digits, digit-values}

@@ -1,7 +1,7 @@
 use mathlib.Core.List.{List, [], _∷_, _++_, append-assoc}
-use mathlib.Core.Path.{_≡_, sym, ap, _∙_, subst}
+use mathlib.Core.Path.{_≡_, ap, _∙_, subst}
 use native.Mathlib.Omega.{arith}
-use Prim.Native.Nat.{ℕ, _+_, _^_, _-_, _<_}
+use Prim.Native.Nat.{ℕ, _+_, _-_}
 use lib.Bits.{bitXor, xor-comm, xor-lt}
 use lib.ListN.{replicate}
 use Rattle.std.proofs.shelf.Lists.{replicate-more}

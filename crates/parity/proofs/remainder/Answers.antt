@@ -1,11 +1,9 @@
-use mathlib.Core.Path.{_≡_, sym, _∙_}
 use native.Mathlib.Omega.{arith}
 use Prim.Native.Nat.{_<_}
 use lib.ListN.{length, getD, take}
 use lib.Seq.{take-all}
 use Rattle.std.proofs.shelf.Elements.{all-getD}
 use Rattle.std.proofs.shelf.Lists.{take-more}
-use Rattle.parity.specs.Division.{Leaves}
 use Rattle.parity.proofs.Steps.{leaves-more}
 use Rattle.parity.proofs.Unique.{one-remainder}
 use Rattle.parity.proofs.remainder.Needs as need

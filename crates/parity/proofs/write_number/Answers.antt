@@ -1,8 +1,8 @@
-use mathlib.Core.List.{List, [], _∷_, _++_}
+use mathlib.Core.List.{[], _∷_, _++_}
 use mathlib.Core.Path.{_≡_, sym, ap, _∙_, subst}
 use native.Mathlib.Nat.{div-eq-of-lt, div-one}
 use native.Mathlib.Omega.{arith}
-use Prim.Native.Nat.{ℕ, _+_, _*_, _/_, _%_, _^_, _-_, _<_}
+use Prim.Native.Nat.{_+_, _*_, _/_, _%_, _^_, _-_, _<_}
 use lib.Bits.{bitAnd, and-mask}
 use lib.ListN.{length, take}
 use lib.Seq.{take-all}

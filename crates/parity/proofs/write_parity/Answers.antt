@@ -1,10 +1,8 @@
 use mathlib.Core.List.{_++_}
-use mathlib.Core.Path.{_≡_, sym, ap, _∙_, subst}
-use Prim.Native.Nat.{ℕ, _^_, _<_, _≤_}
+use mathlib.Core.Path.{_≡_, ap, _∙_, subst}
+use Prim.Native.Nat.{ℕ}
 use lib.Bits.{bitXor, xor-zero-l}
 use lib.ListN.{length, replicate, length-replicate}
-use native.Mathlib.Omega.{arith}
-use Rattle.code.specs.Part.{Sound}
 use Rattle.code.specs.declared.part.Generator.{Generator}
 use Rattle.parity.specs.Division.{Leaves, all-ones, read}
 use Rattle.parity.proofs.Digits.{read-zeros}

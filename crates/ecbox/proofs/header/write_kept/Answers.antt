@@ -1,7 +1,6 @@
 use mathlib.Core.Path.{_≡_, sym, _∙_}
 use native.Mathlib.Omega.{arith}
 use lib.ListN.{length, getD}
-use Prim.Native.Nat.{ℕ}
 use Rattle.std.proofs.shelf.Lists.{length-map, ext-getD}
 use Rattle.placement.specs.Kept.{header-kept}
 use Rattle.ecbox.specs.Stages.{sent-of}

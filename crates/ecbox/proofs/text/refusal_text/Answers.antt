@@ -2,11 +2,11 @@ use mathlib.Core.Path.{_≡_, ap, _∙_}
 use Prim.Native.Nat.{ℕ}
 use Rattle.std.specs.Of.String.{string-bytes}
 use Rattle.std.proofs.shelf.Results.{made-weaker}
-use Rattle.fault.specs.Fault.{numberOf, layerOf, detailOf}
+use Rattle.fault.specs.Fault.{numberOf, layerOf}
 use Rattle.fault.specs.declared.Layer.{Layer}
 use Rattle.fault.specs.declared.Detail.{Detail}
 use Rattle.ecbox.specs.Line.{refused-line, refusal-line}
-use Rattle.ecbox.proofs.refusal.Needs as need
+use Rattle.ecbox.proofs.text.refusal_text.Needs as need
 
 pub returns : need.returns
 returns c =

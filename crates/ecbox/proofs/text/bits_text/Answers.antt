@@ -1,16 +1,14 @@
-use mathlib.Core.Bool.{Bool, true, false, cond}
 use mathlib.Core.List.{List, [], _∷_, _++_}
-use mathlib.Core.Path.{_≡_, sym, ap, _∙_}
+use mathlib.Core.Path.{sym, ap, _∙_}
 use native.Mathlib.Omega.{arith}
 use Prim.Native.Nat.{ℕ, _<_}
-use lib.Dec.{eqb}
-use lib.ListN.{length, getD, take}
+use lib.ListN.{getD}
 use lib.Seq.{take-all}
 use Rattle.std.specs.Of.String.{string-bytes}
 use Rattle.std.proofs.shelf.Lists.{map-more}
 use Rattle.std.proofs.shelf.Ways.{tells}
 use Rattle.ecbox.specs.Line.{bit-code, bit-codes}
-use Rattle.ecbox.proofs.bits_text.Needs as need
+use Rattle.ecbox.proofs.text.bits_text.Needs as need
 
 code-small : (b : ℕ) → bit-code b < 128
 code-small b = grind (arith, tells)
