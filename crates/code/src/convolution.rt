@@ -72,3 +72,32 @@ pub fn encode<C: CodePart>(part: &C, word: &[u8], out: &mut [u8]) -> Result<(), 
     write_coded(part, word, out);
     Ok(())
 }
+
+#[cfg(test)]
+mod tests {
+    use super::*;
+    use crate::parts::EcPart;
+    use crate::parts::EcPartCode;
+    use fault::ParityFaultDebug;
+    use fault::ParityFaultPartialEq;
+    use std::test::*;
+
+    // The first two sums take five bits, the third takes four.
+    #[test]
+    fn a_word_of_ones_is_coded_to_two_ones_of_each_three() -> Result<(), Fail> {
+        let mut coded = [7u8; 72];
+        encode(&EcPart::McsHeader, &[1; 24], &mut coded)?;
+        for (place, bit) in coded.iter().enumerate() {
+            check_eq(*bit == 1, place % 3 < 2)?;
+        }
+        Ok(())
+    }
+
+    #[test]
+    fn a_short_output_is_left_alone() -> Result<(), Fail> {
+        let mut coded = [7u8; 71];
+        let refusal = encode(&EcPart::McsHeader, &[1; 24], &mut coded);
+        check_eq(refusal, Err(ParityFault::Length { buffer: 2 }))?;
+        check_eq(coded, [7; 71])
+    }
+}

@@ -8,11 +8,17 @@ use crate::part::Rule;
 
 #[derive(Clone, Copy, PartialEq, Eq, Debug)]
 pub enum EcPart {
+    // CCCH/D
     CcchDown,
+    // PACCH/D
     PacchDown,
+    // PACCH/U
     PacchUp,
+    // PACCH/U/48
     PacchUp48,
+    // Part 0 of MCS-1'/48
     McsHeader,
+    // Part 1 of MCS-1'/48
     McsData,
 }
 

@@ -194,27 +194,3 @@ fn receiver_detail(fault: ReceiverFault) -> Detail
         ReceiverFault::NoSuchPart { part } => Detail::Number(part),
     }
 }
-
-#[cfg(test)]
-mod tests {
-    use super::*;
-    use std::test::*;
-
-    #[test]
-    fn wrong_parity_tells_part_and_cost() -> Result<(), Fail> {
-        let fault = Fault::from(ParityFault::WrongParity { part: 1, cost: 340 });
-        check_eq(fault.number(), 6)?;
-        check_eq(fault.layer(), Layer::Parity)?;
-        check_eq(fault.detail(), Detail::PartAndCost { part: 1, cost: 340 })
-    }
-
-    #[test]
-    fn an_operator_reads_a_sentence(rt: LibcRuntime) -> Result<(), Fail> {
-        let fault = Fault::from(ReceiverFault::NoMoreRepeats { burst: 2 });
-        let text = format!(rt.alloc(), "{fault}")?;
-        check_eq(
-            text.as_str(),
-            "refused by 4 in the receiver layer: burst 2 was already accepted as often as it is sent",
-        )
-    }
-}

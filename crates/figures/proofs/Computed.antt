@@ -5,7 +5,7 @@ use mathlib.Core.Path.{_≡_, refl, sym, subst, ap₂}
 use Prim.Native.Nat.{ℕ}
 use lib.Dec.{ltb, eqb}
 use lib.ListN.{length}
-use Rattle.std.specs.Iters.{folded}
+use Rattle.std.specs.Iters.{counting, folded}
 use Rattle.std.specs.shelf.Lists.{All}
 use Rattle.std.proofs.shelf.Lists.{take-at}
 use Rattle.std.proofs.shelf.Tests.{and-parts, eqb-true, ltb-true, false≢true}
@@ -21,7 +21,7 @@ use Rattle.parity.specs.Division.{Leaves, all-ones, next}
 use Rattle.parity.specs.Parity.{Word-of}
 use Rattle.parity.proofs.Steps.{leaves-none, leaves-more}
 use Rattle.placement.specs.Kept.{header-kept}
-use Rattle.figures.specs.Figures.{Figure, parity-of, header-bits, Holds}
+use Rattle.figures.specs.Figures.{Figure, parity-of, coded-bits, header-bits, Holds}
 
 abbrev all-bits : List ℕ → Bool
 all-bits [] = true
@@ -76,10 +76,12 @@ tested-same (x ∷ xs) (y ∷ ys) t =
 
 abbrev pub holds-test : Figure → Bool
 holds-test (parity-of part message parity) = word-test (ruleOf part) message parity
+holds-test (coded-bits ending word bits) = same-bits (map (coded ending word) (counting 0 (length bits))) bits
 holds-test (header-bits word bits) = same-bits (map (coded (ruleOf McsHeader .ending) word) header-kept) bits
 
 tested-figure : (f : Figure) → holds-test f ≡ true → Holds f
 tested-figure (parity-of part message parity) t = tested-word (ruleOf part) (table-limits part) message parity t
+tested-figure (coded-bits ending word bits) t = tested-same (map (coded ending word) (counting 0 (length bits))) bits t
 tested-figure (header-bits word bits) t = tested-same (map (coded (ruleOf McsHeader .ending) word) header-kept) bits t
 
 abbrev pub all-test : List Figure → Bool

@@ -156,6 +156,15 @@ mod tests {
     use super::*;
     use code::EcPart;
     use code::EcPartCode;
+    use fault::Detail;
+    use fault::DetailDebug;
+    use fault::DetailPartialEq;
+    use fault::Fault;
+    use fault::FaultDisplay;
+    use fault::FaultFromParity;
+    use fault::Layer;
+    use fault::LayerDebug;
+    use fault::LayerPartialEq;
     use fault::ParityFaultDebug;
     use fault::ParityFaultPartialEq;
     use std::test::*;
@@ -188,5 +197,23 @@ mod tests {
         let refusal = protect(&EcPart::McsHeader, &[3; 16], &mut word);
         check_eq(refusal, Err(ParityFault::Length { buffer: 2 }))?;
         check_eq(word, [7; 23])
+    }
+
+    #[test]
+    fn a_refusal_is_told_by_number_layer_detail_and_in_words(rt: LibcRuntime) -> Result<(), Fail> {
+        let mut bits = [0u8; 8];
+        let message = [0, 1, 0, 3, 1, 1, 0, 0, 1, 9, 0, 0, 0, 0, 0, 0];
+        let Err(refusal) = parity(&EcPart::McsHeader, &message, &mut bits) else {
+            return Err(Fail::new("not refused"));
+        };
+        let fault = Fault::from(refusal);
+        check_eq(fault.number(), 2)?;
+        check_eq(fault.layer(), Layer::Parity)?;
+        check_eq(fault.detail(), Detail::Number(3))?;
+        let text = format!(rt.alloc(), "{fault}")?;
+        check_eq(
+            text.as_str(),
+            "refused by 2 in the parity layer: byte 3 is neither 0 nor 1",
+        )
     }
 }
