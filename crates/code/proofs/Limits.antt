@@ -5,7 +5,7 @@ use Prim.Native.Nat.{_+_, _^_}
 use lib.Dec.{leb, ltb, eqb}
 use Rattle.std.proofs.shelf.Tests.{and-parts, leb-true, ltb-true, eqb-true}
 use Rattle.code.specs.Part.{Limits}
-use Rattle.code.specs.Parts.{ruleOf}
+use Rattle.code.specs.Parts.{rule-of}
 use Rattle.code.specs.declared.part.Rule.{Rule}
 use Rattle.code.specs.declared.parts.EcPart.{EcPart}
 use Rattle.code.specs.declared.parts.EcPart.the-variants.{CcchDown, PacchDown, PacchUp, PacchUp48, McsHeader, McsData}
@@ -36,7 +36,7 @@ tested-limits r t =
       message-and-parity = eqb-true _ _ (a .1);
     }
 
-table-tested : (p : EcPart) → within-limits (ruleOf p) ≡ true
+table-tested : (p : EcPart) → within-limits (rule-of p) ≡ true
 table-tested CcchDown = refl
 table-tested PacchDown = refl
 table-tested PacchUp = refl
@@ -44,5 +44,5 @@ table-tested PacchUp48 = refl
 table-tested McsHeader = refl
 table-tested McsData = refl
 
-pub table-limits : (p : EcPart) → Limits (ruleOf p)
-table-limits p = tested-limits (ruleOf p) (table-tested p)
+pub table-limits : (p : EcPart) → Limits (rule-of p)
+table-limits p = tested-limits (rule-of p) (table-tested p)

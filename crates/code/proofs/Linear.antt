@@ -1,15 +1,18 @@
 -- The code is linear over GF(2): lemmas on sums of words, up to the coded bits of a sum.
 use Prim.Native.Nat.{ℕ, zero, suc, _+_, _-_, _/_, _%_}
 use mathlib.Core.Bool.{Bool, true, false, cond}
-use mathlib.Core.List.{List, [], _∷_}
-use mathlib.Core.Path.{_≡_, refl, sym, ap}
+use mathlib.Core.List.{List, [], _∷_, map}
+use mathlib.Core.Path.{_≡_, refl, sym, ap, ap₂, _∙_}
 use native.Mathlib.Omega.{arith}
 use lib.Dec.{ltb, eqb}
 use lib.ListN.{length, getD}
 use Rattle.code.specs.declared.part.Ending.{Ending}
 use Rattle.code.specs.declared.part.Ending.the-variants.{TailBiting, ZeroTail}
-use Rattle.code.specs.Convolution.{before, back, sums, coded}
+use Rattle.code.specs.Convolution.{before, back, sums, coded, coded-word}
+use Rattle.std.specs.Iters.{counting}
 use Rattle.code.specs.Bits.{sum-word}
+use Rattle.code.specs.Part.{places}
+use Rattle.code.specs.declared.part.Rule.{Rule}
 
 pub length-sum : (v w : List ℕ) → length v ≡ length w → length (sum-word v w) ≡ length v
 length-sum [] w e = refl
@@ -65,3 +68,17 @@ coded-sum e v w h p =
     (simp (back-sum e v w h k) (five (back e v k 0) (back e v k 2) (back e v k 3) (back e v k 5) (back e v k 6) (back e w k 0) (back e w k 2) (back e w k 3) (back e w k 5) (back e w k 6)))
     (simp (back-sum e v w h k) (five (back e v k 0) (back e v k 1) (back e v k 2) (back e v k 3) (back e v k 6) (back e w k 0) (back e w k 1) (back e w k 2) (back e w k 3) (back e w k 6)))
     (simp (back-sum e v w h k) (four (back e v k 0) (back e v k 1) (back e v k 4) (back e v k 6) (back e w k 0) (back e w k 1) (back e w k 4) (back e w k 6)))
+
+sum-maps : (f g : ℕ → ℕ) (cs : List ℕ) → map (λ c. (f c + g c) % 2) cs ≡ sum-word (map f cs) (map g cs)
+sum-maps f g [] = refl
+sum-maps f g (c ∷ cs) = ap (λ (t : List ℕ). (f c + g c) % 2 ∷ t) (sum-maps f g cs)
+
+same-maps : (f g : ℕ → ℕ) → ((c : ℕ) → f c ≡ g c) → (cs : List ℕ) → map f cs ≡ map g cs
+same-maps f g e [] = refl
+same-maps f g e (c ∷ cs) = ap₂ _∷_ (e c) (same-maps f g e cs)
+
+pub coded-word-sum : (r : Rule) (v w : List ℕ) → length v ≡ length w → coded-word r (sum-word v w) ≡ sum-word (coded-word r v) (coded-word r w)
+coded-word-sum r v w h =
+    let e = r .ending in
+    let cs = counting 0 (places r) in
+    same-maps (coded e (sum-word v w)) (λ c. (coded e v c + coded e w c) % 2) (coded-sum e v w h) cs ∙ sum-maps (coded e v) (coded e w) cs

@@ -2,4 +2,3 @@ pub mod Bits
 pub mod Part
 pub mod Parts
 pub mod Convolution
-pub mod Coding

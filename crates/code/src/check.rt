@@ -7,16 +7,17 @@ use fault::ParityFault;
 
 // A call that reads a string of bits checks its length, then the bits.
 pub fn check_string(bits: &[u8], asked: usize) -> Result<(), ParityFault>
-    ensures value { λ r. ⌜ r ≡ string-check (now (bits .entry)) asked ⌝ }
+    ensures refusal { λ r. ⌜ r ≡ string-check (now (bits .entry)) asked ⌝ }
     ensures passed { λ r. ⌜ made r (λ _. Bit-string asked (now (bits .entry))) ⌝ }
 {
     check_length(1, bits.len(), asked)?;
     check_bits(bits)
 }
 
-// A call that writes from a string of bits checks the string's length, the output's, then the bits.
+// A call that writes from a string of bits checks the string's length, then the output's, which is `out` where `room`
+// is asked, then the bits.
 pub fn check_writing(bits: &[u8], asked: usize, out: usize, room: usize) -> Result<(), ParityFault>
-    ensures value { λ r. ⌜ r ≡ writing-check (now (bits .entry)) asked out room ⌝ }
+    ensures refusal { λ r. ⌜ r ≡ writing-check (now (bits .entry)) asked out room ⌝ }
     ensures passed { λ r. ⌜ made r (λ _. Bit-string asked (now (bits .entry)) × (out ≡ room)) ⌝ }
 {
     check_length(1, bits.len(), asked)?;
@@ -26,7 +27,7 @@ pub fn check_writing(bits: &[u8], asked: usize, out: usize, room: usize) -> Resu
 
 // A buffer, told by its number in the order of the checks, has the length asked.
 fn check_length(buffer: u8, given: usize, asked: usize) -> Result<(), ParityFault>
-    ensures value { λ r. ⌜ r ≡ length-check buffer given asked (Ok tt) ⌝ }
+    ensures refusal { λ r. ⌜ r ≡ length-check buffer given asked (Ok tt) ⌝ }
 {
     if given == asked {
         Ok(())
@@ -37,7 +38,7 @@ fn check_length(buffer: u8, given: usize, asked: usize) -> Result<(), ParityFaul
 
 // Every byte is 0 or 1, or the first that is not is told.
 fn check_bits(bytes: &[u8]) -> Result<(), ParityFault>
-    ensures value { λ r. ⌜ First-no-bit (now (bytes .entry)) r ⌝ }
+    ensures refusal { λ r. ⌜ First-no-bit (now (bytes .entry)) r ⌝ }
 {
     for (index, byte) in bytes.iter().enumerate() {
         if *byte > 1 {

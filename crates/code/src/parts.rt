@@ -1,6 +1,6 @@
 // The six parts that are coded here.
 ghost use mathlib.Core.Path.{_≡_};
-ghost use Rattle.code.specs.Parts.{ruleOf};
+ghost use Rattle.code.specs.Parts.{rule-of};
 use crate::part::CodePart;
 use crate::part::Ending;
 use crate::part::Generator;
@@ -79,21 +79,21 @@ const RULES: [Rule; 6] = [
 
 impl EcPart {
     pub fn rule(self) -> Rule
-        ensures value { λ r. ⌜ r ≡ ruleOf self ⌝ }
+        ensures value { λ r. ⌜ r ≡ rule-of self ⌝ }
     {
         RULES[self as usize]
     }
 }
 
 pub impl CodePart for EcPart as EcPartCode {
-    ghost rule = { λ p. ruleOf p };
+    ghost rule = { λ p. rule-of p };
 
     fn message_length(&self) -> usize {
-        self.rule().message as usize
+        usize::from(self.rule().message)
     }
 
     fn word_length(&self) -> usize {
-        self.rule().word as usize
+        usize::from(self.rule().word)
     }
 
     fn ending(&self) -> Ending {

@@ -5,7 +5,7 @@ use Prim.Native.Nat.{ℕ}
 use lib.Chars.{codes}
 use lib.Dec.{eqb}
 use Rattle.std.specs.Written.{decimal}
-use Rattle.fault.specs.Fault.{numberOf, layerOf, detailOf}
+use Rattle.fault.specs.Fault.{number-of, layer-of, detail-of}
 use Rattle.fault.specs.Shown.{layer-text, detail-text}
 use Rattle.fault.specs.declared.Detail.{Detail}
 use Rattle.fault.specs.declared.Fault.{Fault}
@@ -24,4 +24,4 @@ refused-line number layer detail =
     codes "refused " ++ (decimal number ++ (codes " " ++ (layer-text layer ++ (codes " " ++ detail-text detail))))
 
 abbrev pub refusal-line : Fault → List ℕ
-refusal-line f = refused-line (numberOf f) (layerOf f) (detailOf f)
+refusal-line f = refused-line (number-of f) (layer-of f) (detail-of f)

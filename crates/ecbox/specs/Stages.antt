@@ -10,7 +10,7 @@ use Rattle.fault.specs.declared.Fault.the-variants.{Parity}
 use Rattle.fault.specs.declared.ParityFault.{ParityFault}
 use Rattle.code.specs.Bits.{string-check}
 use Rattle.code.specs.Coding.{coded-word}
-use Rattle.code.specs.Parts.{ruleOf}
+use Rattle.code.specs.Parts.{rule-of}
 use Rattle.code.specs.declared.part.Rule.{Rule}
 use Rattle.code.specs.declared.parts.EcPart.the-variants.{McsHeader}
 use Rattle.parity.specs.Parity.{The-word-of}
@@ -18,7 +18,7 @@ use Rattle.placement.specs.Kept.{header-kept}
 use Rattle.ecbox.specs.declared.header.Stages.{Stages}
 
 abbrev pub rule : Rule
-rule = ruleOf McsHeader
+rule = rule-of McsHeader
 
 -- those of a header's coded bits that are sent
 abbrev pub sent-of : List ℕ → List ℕ

@@ -12,43 +12,43 @@ use Rattle.fault.specs.declared.TimingFault.the-variants as timing
 use Rattle.fault.specs.declared.Fault.{Fault}
 use Rattle.fault.specs.declared.Fault.the-variants.{Value, Parity, Placement, Receiver, Timing}
 
-abbrev pub numberOf : Fault → ℕ
-numberOf (Value (value.Length buffer)) = 1
-numberOf (Parity (parity.Length buffer)) = 1
-numberOf (Receiver (receiver.Length buffer)) = 1
-numberOf (Parity (parity.NotABit index)) = 2
-numberOf (Placement (placement.NoSuchBurst burst)) = 3
-numberOf (Receiver (receiver.NoMoreRepeats burst)) = 4
-numberOf (Receiver receiver.NothingHeard) = 5
-numberOf (Parity (parity.WrongParity part cost)) = 6
-numberOf (Receiver (receiver.NoSuchPart part)) = 7
-numberOf (Value value.Weight) = 8
-numberOf (Value value.Noise) = 8
-numberOf (Value value.Quotient) = 8
-numberOf (Timing timing.Total) = 9
-numberOf (Timing timing.Repeat) = 9
-numberOf (Timing timing.Slots) = 9
+abbrev pub number-of : Fault → ℕ
+number-of (Value (value.Length buffer)) = 1
+number-of (Parity (parity.Length buffer)) = 1
+number-of (Receiver (receiver.Length buffer)) = 1
+number-of (Parity (parity.NotABit index)) = 2
+number-of (Placement (placement.NoSuchBurst burst)) = 3
+number-of (Receiver (receiver.NoMoreRepeats burst)) = 4
+number-of (Receiver receiver.NothingHeard) = 5
+number-of (Parity (parity.WrongParity part cost)) = 6
+number-of (Receiver (receiver.NoSuchPart part)) = 7
+number-of (Value value.Weight) = 8
+number-of (Value value.Noise) = 8
+number-of (Value value.Quotient) = 8
+number-of (Timing timing.Total) = 9
+number-of (Timing timing.Repeat) = 9
+number-of (Timing timing.Slots) = 9
 
-abbrev pub layerOf : Fault → Layer
-layerOf (Value f) = layers.Value
-layerOf (Parity f) = layers.Parity
-layerOf (Placement f) = layers.Placement
-layerOf (Receiver f) = layers.Receiver
-layerOf (Timing f) = layers.Timing
+abbrev pub layer-of : Fault → Layer
+layer-of (Value f) = layers.Value
+layer-of (Parity f) = layers.Parity
+layer-of (Placement f) = layers.Placement
+layer-of (Receiver f) = layers.Receiver
+layer-of (Timing f) = layers.Timing
 
-abbrev pub detailOf : Fault → Detail
-detailOf (Value (value.Length buffer)) = Number buffer
-detailOf (Parity (parity.Length buffer)) = Number buffer
-detailOf (Receiver (receiver.Length buffer)) = Number buffer
-detailOf (Parity (parity.NotABit index)) = Number index
-detailOf (Placement (placement.NoSuchBurst burst)) = Number burst
-detailOf (Receiver (receiver.NoMoreRepeats burst)) = Number burst
-detailOf (Receiver receiver.NothingHeard) = Number 0
-detailOf (Parity (parity.WrongParity part cost)) = PartAndCost part cost
-detailOf (Receiver (receiver.NoSuchPart part)) = Number part
-detailOf (Value value.Weight) = Number 1
-detailOf (Value value.Noise) = Number 2
-detailOf (Value value.Quotient) = Number 3
-detailOf (Timing timing.Total) = Number 1
-detailOf (Timing timing.Repeat) = Number 2
-detailOf (Timing timing.Slots) = Number 3
+abbrev pub detail-of : Fault → Detail
+detail-of (Value (value.Length buffer)) = Number buffer
+detail-of (Parity (parity.Length buffer)) = Number buffer
+detail-of (Receiver (receiver.Length buffer)) = Number buffer
+detail-of (Parity (parity.NotABit index)) = Number index
+detail-of (Placement (placement.NoSuchBurst burst)) = Number burst
+detail-of (Receiver (receiver.NoMoreRepeats burst)) = Number burst
+detail-of (Receiver receiver.NothingHeard) = Number 0
+detail-of (Parity (parity.WrongParity part cost)) = PartAndCost part cost
+detail-of (Receiver (receiver.NoSuchPart part)) = Number part
+detail-of (Value value.Weight) = Number 1
+detail-of (Value value.Noise) = Number 2
+detail-of (Value value.Quotient) = Number 3
+detail-of (Timing timing.Total) = Number 1
+detail-of (Timing timing.Repeat) = Number 2
+detail-of (Timing timing.Slots) = Number 3

@@ -79,9 +79,9 @@ pub impl fmt::Display for ReceiverFault as ReceiverFaultDisplay {
             ReceiverFault::Length { buffer } => write!(f, "buffer {buffer} has the wrong length"),
             ReceiverFault::NoMoreRepeats { burst } => write!(
                 f,
-                "burst {burst} was already accepted as often as it is sent"
+                "burst {burst} was already accepted as many times as the block allows"
             ),
-            ReceiverFault::NothingHeard => write!(f, "no burst was accepted yet"),
+            ReceiverFault::NothingHeard => write!(f, "no burst was accepted since opening or the last restart"),
             ReceiverFault::NoSuchPart { part } => write!(f, "the block has no part {part}"),
         }
     }
@@ -94,7 +94,7 @@ pub impl fmt::Display for TimingFault as TimingFaultDisplay {
             TimingFault::Repeat => write!(f, "there is no repeat of that number"),
             TimingFault::Slots => write!(
                 f,
-                "there are not so many slots, or no slot of that number"
+                "the block does not use that many slots, or has no slot of that number"
             ),
         }
     }

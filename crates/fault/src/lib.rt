@@ -1,6 +1,6 @@
 // Why a call is refused: one enum for each layer, and `Fault` over them. A fault tells a number, its layer and a detail.
 ghost use mathlib.Core.Path.{_≡_};
-ghost use Rattle.fault.specs.Fault.{numberOf, layerOf, detailOf};
+ghost use Rattle.fault.specs.Fault.{number-of, layer-of, detail-of};
 ghost use Rattle.fault.specs.declared.Fault.the-variants.{Value, Parity, Placement, Receiver, Timing};
 
 mod display;
@@ -8,6 +8,11 @@ mod display;
 pub use display::DetailDisplay;
 pub use display::FaultDisplay;
 pub use display::LayerDisplay;
+pub use display::ParityFaultDisplay;
+pub use display::PlacementFaultDisplay;
+pub use display::ReceiverFaultDisplay;
+pub use display::TimingFaultDisplay;
+pub use display::ValueFaultDisplay;
 
 // The layer that refused.
 #[derive(Clone, Copy, PartialEq, Eq, Debug)]
@@ -56,7 +61,7 @@ pub enum PlacementFault {
 #[derive(Clone, Copy, PartialEq, Eq, Debug)]
 pub enum ReceiverFault {
     Length { buffer: u8 },
-    // The burst was already accepted as often as its block repeats it.
+    // The burst was already accepted as many times as the block allows.
     NoMoreRepeats { burst: usize },
     NothingHeard,
     NoSuchPart { part: usize },
@@ -124,7 +129,7 @@ pub impl From<TimingFault> for Fault as FaultFromTiming {
 
 impl Fault {
     pub fn number(self) -> u8
-        ensures value { λ r. ⌜ r ≡ numberOf self ⌝ }
+        ensures value { λ r. ⌜ r ≡ number-of self ⌝ }
     {
         match self {
             Fault::Value(ValueFault::Length { .. }) => 1,
@@ -142,7 +147,7 @@ impl Fault {
     }
 
     pub fn layer(self) -> Layer
-        ensures value { λ r. ⌜ r ≡ layerOf self ⌝ }
+        ensures value { λ r. ⌜ r ≡ layer-of self ⌝ }
     {
         match self {
             Fault::Value(_) => Layer::Value,
@@ -154,11 +159,11 @@ impl Fault {
     }
 
     pub fn detail(self) -> Detail
-        ensures value { λ r. ⌜ r ≡ detailOf self ⌝ }
+        ensures value { λ r. ⌜ r ≡ detail-of self ⌝ }
     {
         match self {
             Fault::Value(fault) => value_detail(fault),
-            Fault::Parity(ParityFault::Length { buffer }) => Detail::Number(buffer as usize),
+            Fault::Parity(ParityFault::Length { buffer }) => Detail::Number(usize::from(buffer)),
             Fault::Parity(ParityFault::NotABit { index }) => Detail::Number(index),
             Fault::Parity(ParityFault::WrongParity { part, cost }) => Detail::PartAndCost {
                 part,
@@ -174,10 +179,10 @@ impl Fault {
 }
 
 fn value_detail(fault: ValueFault) -> Detail
-    ensures value { λ r. ⌜ r ≡ detailOf (Value fault) ⌝ }
+    ensures value { λ r. ⌜ r ≡ detail-of (Value fault) ⌝ }
 {
     match fault {
-        ValueFault::Length { buffer } => Detail::Number(buffer as usize),
+        ValueFault::Length { buffer } => Detail::Number(usize::from(buffer)),
         ValueFault::Weight => Detail::Number(1),
         ValueFault::Noise => Detail::Number(2),
         ValueFault::Quotient => Detail::Number(3),
@@ -185,10 +190,10 @@ fn value_detail(fault: ValueFault) -> Detail
 }
 
 fn receiver_detail(fault: ReceiverFault) -> Detail
-    ensures value { λ r. ⌜ r ≡ detailOf (Receiver fault) ⌝ }
+    ensures value { λ r. ⌜ r ≡ detail-of (Receiver fault) ⌝ }
 {
     match fault {
-        ReceiverFault::Length { buffer } => Detail::Number(buffer as usize),
+        ReceiverFault::Length { buffer } => Detail::Number(usize::from(buffer)),
         ReceiverFault::NoMoreRepeats { burst } => Detail::Number(burst),
         ReceiverFault::NothingHeard => Detail::Number(0),
         ReceiverFault::NoSuchPart { part } => Detail::Number(part),

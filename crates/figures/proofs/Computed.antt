@@ -1,7 +1,7 @@
 -- A test of figures that computes, and what it means: one proof for the whole list.
 use mathlib.Core.Bool.{Bool, true, false, _&&_}
-use mathlib.Core.List.{List, [], _∷_, _++_, map, append-assoc, append-nil}
-use mathlib.Core.Path.{_≡_, refl, sym, subst, ap₂}
+use mathlib.Core.List.{List, [], _∷_, _++_, map}
+use mathlib.Core.Path.{_≡_, refl, subst, ap₂}
 use Prim.Native.Nat.{ℕ}
 use lib.Dec.{ltb, eqb}
 use lib.ListN.{length}
@@ -11,15 +11,15 @@ use Rattle.std.proofs.shelf.Lists.{take-at}
 use Rattle.std.proofs.shelf.Tests.{and-parts, eqb-true, ltb-true, false≢true}
 use Rattle.code.specs.Bits.{Bits}
 use Rattle.code.specs.Convolution.{coded}
-use Rattle.code.specs.Part.{Limits, Sound}
-use Rattle.code.specs.Parts.{ruleOf}
+use Rattle.code.specs.Part.{Limits}
+use Rattle.code.specs.Parts.{rule-of}
 use Rattle.code.specs.declared.parts.EcPart.the-variants.{McsHeader}
 use Rattle.code.proofs.Limits.{table-limits}
-use Rattle.code.specs.declared.part.Generator.{Generator}
 use Rattle.code.specs.declared.part.Rule.{Rule}
-use Rattle.parity.specs.Division.{Leaves, all-ones, next}
+use Rattle.parity.specs.Division.{Leaves, all-ones}
+use Rattle.parity.specs.Register.{next}
 use Rattle.parity.specs.Parity.{Word-of}
-use Rattle.parity.proofs.Steps.{leaves-none, leaves-more}
+use Rattle.parity.proofs.Steps.{leaves-computed}
 use Rattle.placement.specs.Kept.{header-kept}
 use Rattle.figures.specs.Figures.{Figure, parity-of, coded-bits, header-bits, Holds}
 
@@ -31,17 +31,6 @@ tested-bits : (bits : List ℕ) → all-bits bits ≡ true → Bits bits
 tested-bits [] t = tt
 tested-bits (b ∷ bits) t =
     let parts = and-parts (ltb b 2) (all-bits bits) t in (ltb-true b 2 (parts .0), tested-bits bits (parts .1))
-
-module _ (g : Generator) (sound : Sound g) where
-  from : (done bits : List ℕ) (r : ℕ) → Bits bits → Leaves g done r → Leaves g (done ++ bits) (folded (next g) r bits)
-  from done [] r h old = subst (λ (l : List ℕ). Leaves g l r) (sym (append-nil done)) old
-  from done (b ∷ bits) r h old =
-      subst (λ (l : List ℕ). Leaves g l (folded (next g) (next g r b) bits)) (append-assoc done (b ∷ []) bits)
-      (from (done ++ (b ∷ [])) bits (next g r b) (h .1) (leaves-more g sound done r b old (h .0)))
-
-  -- the remainder, worked out bit by bit
-  leaves-computed : (bits : List ℕ) → Bits bits → Leaves g bits (folded (next g) 0 bits)
-  leaves-computed bits h = from [] bits 0 h (leaves-none g sound)
 
 -- message and parity have a part's lengths, are bits, and leave every coefficient 1
 abbrev word-test : Rule → List ℕ → List ℕ → Bool
@@ -75,14 +64,14 @@ tested-same (x ∷ xs) (y ∷ ys) t =
     let parts = and-parts (eqb x y) (same-bits xs ys) t in ap₂ _∷_ (eqb-true x y (parts .0)) (tested-same xs ys (parts .1))
 
 abbrev pub holds-test : Figure → Bool
-holds-test (parity-of part message parity) = word-test (ruleOf part) message parity
+holds-test (parity-of part message parity) = word-test (rule-of part) message parity
 holds-test (coded-bits ending word bits) = same-bits (map (coded ending word) (counting 0 (length bits))) bits
-holds-test (header-bits word bits) = same-bits (map (coded (ruleOf McsHeader .ending) word) header-kept) bits
+holds-test (header-bits word bits) = same-bits (map (coded (rule-of McsHeader .ending) word) header-kept) bits
 
 tested-figure : (f : Figure) → holds-test f ≡ true → Holds f
-tested-figure (parity-of part message parity) t = tested-word (ruleOf part) (table-limits part) message parity t
+tested-figure (parity-of part message parity) t = tested-word (rule-of part) (table-limits part) message parity t
 tested-figure (coded-bits ending word bits) t = tested-same (map (coded ending word) (counting 0 (length bits))) bits t
-tested-figure (header-bits word bits) t = tested-same (map (coded (ruleOf McsHeader .ending) word) header-kept) bits t
+tested-figure (header-bits word bits) t = tested-same (map (coded (rule-of McsHeader .ending) word) header-kept) bits t
 
 abbrev pub all-test : List Figure → Bool
 all-test [] = true

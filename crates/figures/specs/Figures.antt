@@ -6,7 +6,7 @@ use lib.ListN.{length, replicate}
 use Rattle.std.specs.Iters.{counting}
 use Rattle.std.specs.shelf.Lists.{All}
 use Rattle.code.specs.Convolution.{coded}
-use Rattle.code.specs.Parts.{ruleOf}
+use Rattle.code.specs.Parts.{rule-of}
 use Rattle.code.specs.declared.part.Ending.{Ending}
 use Rattle.code.specs.declared.part.Ending.the-variants.{TailBiting, ZeroTail}
 use Rattle.code.specs.declared.parts.EcPart.{EcPart}
@@ -23,11 +23,11 @@ pub data Figure : Type 0 where
   header-bits : List ℕ → List ℕ → Figure
 
 abbrev pub Holds : Figure → Type 0
-Holds (parity-of part message parity) = Word-of (ruleOf part) message (message ++ parity)
+Holds (parity-of part message parity) = Word-of (rule-of part) message (message ++ parity)
 Holds (coded-bits ending word bits) = map (coded ending word) (counting 0 (length bits)) ≡ bits
-Holds (header-bits word bits) = map (coded (ruleOf McsHeader .ending) word) header-kept ≡ bits
+Holds (header-bits word bits) = map (coded (rule-of McsHeader .ending) word) header-kept ≡ bits
 
--- a message of n bits, of which only the last is 1
+-- n zeros, then a 1
 abbrev last-one : ℕ → List ℕ
 last-one n = replicate n 0 ++ (1 ∷ [])
 

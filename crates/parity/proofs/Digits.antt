@@ -3,9 +3,10 @@ use mathlib.Core.List.{List, [], _∷_, _++_}
 use mathlib.Core.Logic.{⊎-elim}
 use mathlib.Core.Path.{_≡_, refl, sym, ap, ap₂, _∙_}
 use Prim.Native.Nat.{ℕ, zero, suc, _+_, _*_, _/_, _%_, _^_, _<_}
-use native.Mathlib.Nat.{pow-suc, add-mul, mul-assoc, mul-comm, div-div-eq-div-mul}
+use native.Mathlib.Nat.{pow-suc, add-mul, mul-assoc, mul-comm, mod-lt, div-one, div-eq-of-lt, div-div-eq-div-mul}
 use native.Mathlib.Numerals.{add-one}
 use native.Mathlib.Omega.{arith}
+use lib.Dec.{lit<}
 use lib.ListN.{length, replicate}
 use Rattle.std.specs.Iters.{folded}
 use Rattle.code.specs.Bits.{Bits}
@@ -88,3 +89,36 @@ digits-more v k =
     let e : v / 2 ^ k / 2 ≡ v / 2 ^ (k + 1) =
     div-div-eq-div-mul v (2 ^ k) 2 ∙ ap (λ n. v / n) (sym (pow-suc 2 k) ∙ ap (λ n. 2 ^ n) (sym (add-one k))) in
     omega (arith, e)
+
+-- a number below 2 ^ d as d bits
+abbrev pub bits-of : ℕ → ℕ → List ℕ
+bits-of zero v = []
+bits-of (suc d) v = (v / 2 ^ d) % 2 ∷ bits-of d v
+
+pub bits-of-long : (d v : ℕ) → length (bits-of d v) ≡ d
+bits-of-long zero v = refl
+bits-of-long (suc d) v = ap suc (bits-of-long d v)
+
+pub bits-of-bits : (d v : ℕ) → Bits (bits-of d v)
+bits-of-bits zero v = tt
+bits-of-bits (suc d) v = (mod-lt _ (lit< tt), bits-of-bits d v)
+
+-- v is its last d bits and what stands above them
+read-bits-of : (d v : ℕ) → read (bits-of d v) + (v / 2 ^ d) * 2 ^ d ≡ v
+read-bits-of zero v = omega (arith, div-one v)
+read-bits-of (suc d) v =
+    let t = 2 ^ d in
+    let b = (v / t) % 2 in
+    let h = v / 2 ^ (d + 1) in
+    let here : read (b ∷ bits-of d v) ≡ b * t + read (bits-of d v) =
+        read-cons b (bits-of d v) ∙ ap (λ n. b * 2 ^ n + read (bits-of d v)) (bits-of-long d v) in
+    let split : (v / t) * t ≡ (2 * h) * t + b * t = ap (λ n. n * t) (digits-more v d) ∙ add-mul (2 * h) b t in
+    let power : h * 2 ^ (d + 1) ≡ (2 * h) * t =
+        ap (λ n. h * n) (ap (λ n. 2 ^ n) (add-one d) ∙ pow-suc 2 d ∙ mul-comm t 2) ∙ sym (mul-assoc h 2 t) ∙ ap (λ n. n * t) (mul-comm h 2) in
+    let top : (v / 2 ^ suc d) * 2 ^ suc d ≡ h * 2 ^ (d + 1) = ap (λ n. (v / 2 ^ n) * 2 ^ n) (sym (add-one d)) in
+    omega (arith, here, split, power, top, read-bits-of d v)
+
+pub read-back : (d v : ℕ) → v < 2 ^ d → read (bits-of d v) ≡ v
+read-back d v h =
+    let none : (v / 2 ^ d) * 2 ^ d ≡ 0 = ap (λ n. n * 2 ^ d) (div-eq-of-lt h) ∙ omega arith in
+    omega (arith, none, read-bits-of d v)

@@ -1,25 +1,27 @@
 -- One more bit of a division.
-use mathlib.Core.List.{List, [], _∷_, _++_}
+use mathlib.Core.List.{List, [], _∷_, _++_, append-assoc, append-nil}
 use mathlib.Core.Logic.{⊎-elim}
 use mathlib.Core.Path.{_≡_, refl, sym, ap, _∙_, subst}
 use Prim.Native.Nat.{ℕ, _+_, _-_, _*_, _^_, _<_, _≤_}
 use native.Mathlib.Omega.{arith}
 use lib.Bits.{bitXor, xor-zero-r, xor-lt}
 use lib.Dec.{ltb}
-use lib.ListN.{length-append}
 use lib.Pow.{pow-pos}
 use Rattle.std.proofs.shelf.Elements.{all-push}
 use Rattle.std.proofs.shelf.Sums.{folded-push}
 use Rattle.std.proofs.shelf.Tests.{cases-lt, cond-true, cond-false, lt-ltb, le-ltb}
+use Rattle.std.specs.Iters.{folded}
+use Rattle.code.specs.Bits.{Bits}
 use Rattle.code.specs.Part.{Sound}
 use Rattle.code.specs.declared.part.Generator.{Generator}
-use Rattle.parity.specs.Division.{Leaves, next, read, product, polynomial}
+use Rattle.parity.specs.Division.{Leaves, read, product, polynomial}
+use Rattle.parity.specs.Register.{next}
 use Rattle.parity.proofs.Xor.{xor-double, xor-both, xor-leading}
 
 module _ (g : Generator) (sound : Sound g) where
   -- nothing read, nothing left
   pub leaves-none : Leaves g [] 0
-  leaves-none = record { quotient = []; binary = tt; long = refl; small = pow-pos (g .degree); whole = refl }
+  leaves-none = record { quotient = []; binary = tt; small = pow-pos (g .degree); whole = refl }
 
   -- with one more bit of the quotient, and what is left then
   pushed : (bits : List ℕ) (r b : ℕ) (old : Leaves g bits r) → b < 2 → (c s : ℕ) → c < 2 → s < 2 ^ g .degree
@@ -33,7 +35,6 @@ module _ (g : Generator) (sound : Sound g) where
       record {
         quotient = q ++ (c ∷ []);
         binary = all-push (λ x. x < 2) q c (old .binary) hc;
-        long = length-append q (c ∷ []) ∙ ap (λ n. n + 1) (old .long) ∙ sym (length-append bits (b ∷ []));
         small = hs;
         whole = more ∙ ap (λ n. 2 * n + b) (old .whole) ∙ xor-double (product q p) r b hb ∙ e ∙ ap (λ n. bitXor n s) (sym longer);
       }
@@ -56,3 +57,13 @@ module _ (g : Generator) (sound : Sound g) where
       (pushed bits r b old hb 1 s (omega arith) (xor-lt d (x - 2 ^ d) (g .taps) under (sound .below-leading))
       (sym (ap (λ n. bitXor n s) (ap (bitXor (2 * p)) (omega arith)) ∙ ap (bitXor (bitXor (2 * p) (polynomial g))) (sym reduced) ∙ xor-both (2 * p) (polynomial g) x))))
       (cases-lt x (2 ^ d))
+
+  from : (done bits : List ℕ) (r : ℕ) → Bits bits → Leaves g done r → Leaves g (done ++ bits) (folded (next g) r bits)
+  from done [] r h old = subst (λ (l : List ℕ). Leaves g l r) (sym (append-nil done)) old
+  from done (b ∷ bits) r h old =
+      subst (λ (l : List ℕ). Leaves g l (folded (next g) (next g r b) bits)) (append-assoc done (b ∷ []) bits)
+      (from (done ++ (b ∷ [])) bits (next g r b) (h .1) (leaves-more done r b old (h .0)))
+
+  -- the remainder, worked out bit by bit
+  pub leaves-computed : (bits : List ℕ) → Bits bits → Leaves g bits (folded (next g) 0 bits)
+  leaves-computed bits h = from [] bits 0 h leaves-none

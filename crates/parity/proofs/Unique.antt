@@ -1,12 +1,12 @@
 -- A division leaves one remainder: a sum of two multiples of the polynomial is a multiple, and a multiple that is not zero has its degree or more.
-use mathlib.Core.List.{List, [], _∷_}
+use mathlib.Core.List.{List, [], _∷_, _++_}
 use mathlib.Core.Logic.{_⊎_, inl, inr, ⊎-elim}
-use mathlib.Core.Path.{_≡_, refl, sym, ap, _∙_, subst}
-use Prim.Native.Nat.{ℕ, _+_, _*_, _^_, _<_, _≤_}
+use mathlib.Core.Path.{_≡_, refl, sym, ap, ap₂, _∙_, subst}
+use Prim.Native.Nat.{ℕ, zero, suc, _+_, _*_, _^_, _<_, _≤_}
 use native.Mathlib.Nat.{zero-mul, one-mul}
 use native.Mathlib.Omega.{arith}
 use lib.Bits.{bitXor, xor-zero-l, xor-zero-r, xor-self, xor-lt}
-use lib.ListN.{length}
+use lib.ListN.{length, replicate, length-append, length-replicate}
 use lib.Pow.{pow-pos, pow-add}
 use Rattle.std.specs.Iters.{folded}
 use Rattle.std.proofs.shelf.Tests.{cases-lt}
@@ -94,6 +94,20 @@ module _ (p d : ℕ) (lead : 2 ^ d ≤ p) (top : p < 2 ^ (d + 1)) where
       ∙ ap (λ n. bitXor n (bitXor (x * p) (y * p))) (doubled a c)
       ∙ ap (bitXor (2 * bitXor a c)) (multiples x y (h .0) (i .0)))
 
+  -- leading zeros change no product
+  leading-zeros : (k : ℕ) (q : List ℕ) → folded grow 0 (replicate {A = ℕ} k 0 ++ q) ≡ folded grow 0 q
+  leading-zeros zero q = refl
+  leading-zeros (suc k) q =
+      let z : grow 0 0 ≡ 0 = ap (bitXor 0) (zero-mul p) in
+      ap (λ n. folded grow n (replicate {A = ℕ} k 0 ++ q)) z ∙ leading-zeros k q
+
+padded-bits : (k : ℕ) (q : List ℕ) → Bits q → Bits (replicate {A = ℕ} k 0 ++ q)
+padded-bits zero q h = h
+padded-bits (suc k) q h = (omega arith, padded-bits k q h)
+
+padded-long : (k : ℕ) (q : List ℕ) → length (replicate {A = ℕ} k 0 ++ q) ≡ k + length q
+padded-long k q = length-append (replicate {A = ℕ} k 0) q ∙ omega (arith, length-replicate {A = ℕ} k 0)
+
 pub one-remainder : (g : Generator) → Sound g → (bits : List ℕ) (r s : ℕ) → Leaves g bits r → Leaves g bits s → r ≡ s
 one-remainder g sound bits r s one two =
     let d = g .degree in
@@ -104,13 +118,21 @@ one-remainder g sound bits r s one two =
     let b = product (two .quotient) p in
     let level : bitXor a r ≡ bitXor b s = sym (one .whole) ∙ two .whole in
     let both : bitXor a b ≡ bitXor r s =
-    xor-equal (bitXor a b) (bitXor r s) (xor-pairs a b r s ∙ ap (λ n. bitXor n (bitXor b s)) level ∙ xor-self (bitXor b s)) in
-    let q = added p d lead top (one .quotient) (two .quotient) in
+        xor-equal (bitXor a b) (bitXor r s) (xor-pairs a b r s ∙ ap (λ n. bitXor n (bitXor b s)) level ∙ xor-self (bitXor b s)) in
+    let m = length (one .quotient) in
+    let n = length (two .quotient) in
+    let first = replicate {A = ℕ} n 0 ++ one .quotient in
+    let second = replicate {A = ℕ} m 0 ++ two .quotient in
+    let bits-first = padded-bits n (one .quotient) (one .binary) in
+    let bits-second = padded-bits m (two .quotient) (two .binary) in
+    let even : length first ≡ length second = omega (arith, padded-long n (one .quotient), padded-long m (two .quotient)) in
+    let q = added p d lead top first second in
     let sum : bitXor a b ≡ product q p =
-    linear p d lead top 0 0 (one .quotient) (two .quotient) (one .long ∙ sym (two .long)) (one .binary) (two .binary) in
+        ap₂ bitXor (sym (leading-zeros p d lead top n (one .quotient))) (sym (leading-zeros p d lead top m (two .quotient)))
+        ∙ linear p d lead top 0 0 first second even bits-first bits-second in
     let under : bitXor r s < 2 ^ d = xor-lt d r s (one .small) (two .small) in
     xor-equal r s
     (⊎-elim
-    (λ (z : product q p ≡ 0). sym both ∙ sum ∙ z)
-    (λ (l : 2 ^ d ≤ product q p). absurd (omega (arith, both, sum, under, l)))
-    (zero-or-large p d lead top q (added-bits p d lead top (one .quotient) (two .quotient) (one .binary) (two .binary))))
+      (λ (z : product q p ≡ 0). sym both ∙ sum ∙ z)
+      (λ (l : 2 ^ d ≤ product q p). absurd (omega (arith, both, sum, under, l)))
+      (zero-or-large p d lead top q (added-bits p d lead top first second bits-first bits-second)))

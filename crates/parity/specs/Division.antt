@@ -1,13 +1,11 @@
 -- Division of polynomials over GF(2). A number stands for a polynomial: its bit i is the coefficient of D^i, and bitXor is the sum.
-use mathlib.Core.Bool.{cond}
 use mathlib.Core.List.{List}
 use mathlib.Core.Path.{_≡_}
 use Prim.Native.Nat.{ℕ, _+_, _-_, _*_, _^_, _<_}
 use lib.Bits.{bitXor}
-use lib.Dec.{ltb}
-use lib.ListN.{length}
 use Rattle.std.specs.Iters.{folded}
 use Rattle.code.specs.Bits.{Bits}
+use Rattle.code.specs.Part.{Sound}
 use Rattle.code.specs.declared.part.Generator.{Generator}
 
 -- the whole polynomial, with its leading one
@@ -30,11 +28,9 @@ product quotient p = folded (λ a b. bitXor (2 * a) (b * p)) 0 quotient
 pub record Leaves (g : Generator) (bits : List ℕ) (r : ℕ) : Type 0 where
   pub quotient : List ℕ
   pub binary : Bits quotient
-  -- written with leading zeros
-  pub long : length quotient ≡ length bits
   pub small : r < 2 ^ g .degree
   pub whole : read bits ≡ bitXor (product quotient (polynomial g)) r
 
--- what a division has left after one more bit
-abbrev pub next : Generator → ℕ → ℕ → ℕ
-next g r b = cond (ltb (2 * r + b) (2 ^ g .degree)) (2 * r + b) (bitXor (2 * r + b - 2 ^ g .degree) (g .taps))
+-- a division leaves one remainder, and no other
+abbrev pub One-remainder : Type 0
+One-remainder = (g : Generator) → Sound g → (bits : List ℕ) → Bits bits → (r : ℕ) × Leaves g bits r × ((s : ℕ) → Leaves g bits s → s ≡ r)

@@ -9,7 +9,7 @@ use Rattle.std.specs.declared.result.Result.{Result}
 use Rattle.std.specs.declared.result.Result.the-variants.{Ok, Err}
 use Rattle.fault.specs.declared.ParityFault.{ParityFault}
 use Rattle.code.specs.Bits.{string-check}
-use Rattle.code.specs.Part.{Word}
+use Rattle.code.specs.Part.{Limits, Message, Word}
 use Rattle.code.specs.declared.part.Rule.{Rule}
 use Rattle.parity.specs.Division.{Leaves, all-ones}
 
@@ -27,6 +27,10 @@ pub record Word-of (rule : Rule) (m w : List ℕ) : Type 0 where
 pub record The-word-of (rule : Rule) (m w : List ℕ) : Type 0 where
   pub is : Word-of rule m w
   pub only : (v : List ℕ) → Word-of rule m v → v ≡ w
+
+-- every message has one word with right parity, and no other
+abbrev pub One-word : Type 0
+One-word = (rule : Rule) → Limits rule → (m : List ℕ) → Message rule m → (w : List ℕ) × The-word-of rule m w
 
 -- the answer tells whether a word's parity is right, or is the check's refusal
 abbrev pub Judged : Rule → List ℕ → Result Bool ParityFault → Type 0

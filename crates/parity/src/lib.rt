@@ -8,8 +8,14 @@ ghost use Rattle.std.specs.Orderings.{Decides};
 ghost use Rattle.std.specs.Vec.{made, refused};
 ghost use Rattle.code.specs.Bits.{Bits, writing-check};
 ghost use Rattle.code.specs.Part.{Message, Sound};
-ghost use Rattle.parity.specs.Division.{Leaves, all-ones, next, read};
+ghost use Rattle.parity.specs.Division.{Leaves, all-ones, read};
+ghost use Rattle.parity.specs.Register.{next};
 ghost use Rattle.parity.specs.Parity.{Judged, The-word-of};
+mod laws;
+
+pub use laws::division_leaves_one_remainder;
+pub use laws::every_message_has_one_word;
+
 use code::CodePart;
 use code::Generator;
 use code::check_string;
@@ -26,7 +32,7 @@ pub fn parity<C: CodePart>(part: &C, message: &[u8], out: &mut [u8]) -> Result<(
         message,
         part.message_length(),
         out.len(),
-        part.generator().degree as usize,
+        usize::from(part.generator().degree),
     )?;
     write_parity(part, message, out);
     Ok(())

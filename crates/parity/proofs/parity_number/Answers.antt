@@ -5,7 +5,8 @@ use Prim.Native.Nat.{ℕ, _+_, _-_}
 use lib.Bits.{bitXor, xor-comm, xor-lt}
 use lib.ListN.{replicate}
 use Rattle.std.proofs.shelf.Lists.{replicate-more}
-use Rattle.parity.specs.Division.{Leaves, all-ones, next}
+use Rattle.parity.specs.Division.{Leaves, all-ones}
+use Rattle.parity.specs.Register.{next}
 use Rattle.parity.proofs.Steps.{leaves-more}
 use Rattle.parity.proofs.Xor.{xor-again}
 use Rattle.parity.proofs.parity_number.Needs as need

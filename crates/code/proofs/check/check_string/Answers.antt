@@ -6,6 +6,6 @@ use Rattle.code.proofs.check.check_string.Needs as need
 
 pub returns : need.returns
 returns c =
-    let bits = first-no-bit (c .args .bits .now) (c .check-bits .result) (c .check-bits .ensures .value) in
+    let bits = first-no-bit (c .args .bits .now) (c .check-bits .result) (c .check-bits .ensures .refusal) in
     let is : c .check-bits .result ≡ string-check (c .args .bits .now) (c .args .asked) = search needs in
-    record { value = is; passed = string-made (c .args .bits .now) (c .args .asked) (c .check-bits .result) is }
+    record { refusal = is; passed = string-made (c .args .bits .now) (c .args .asked) (c .check-bits .result) is }

@@ -6,6 +6,6 @@ use Rattle.code.proofs.check.check_writing.Needs as need
 
 pub returns : need.returns
 returns c =
-    let bits = first-no-bit (c .args .bits .now) (c .check-bits .result) (c .check-bits .ensures .value) in
+    let bits = first-no-bit (c .args .bits .now) (c .check-bits .result) (c .check-bits .ensures .refusal) in
     let is : c .check-bits .result ≡ writing-check (c .args .bits .now) (c .args .asked) (c .args .out) (c .args .room) = search needs in
-    record { value = is; passed = writing-made (c .args .bits .now) (c .args .asked) (c .args .out) (c .args .room) (c .check-bits .result) is }
+    record { refusal = is; passed = writing-made (c .args .bits .now) (c .args .asked) (c .args .out) (c .args .room) (c .check-bits .result) is }
