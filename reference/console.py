@@ -1,5 +1,6 @@
 """Reads commands from standard input, one a line, and answers on standard output. `help` lists the commands."""
 
+import re
 import sys
 
 sys.dont_write_bytecode = True
@@ -36,8 +37,12 @@ def header(bits):
     ]
 
 
-def answer(words):
+def answer(line, words):
     """The lines that answer one command. Words are bytes."""
+    try:
+        line.decode("utf-8")
+    except UnicodeDecodeError:
+        raise Error("the line is not text")
     if words[0] == b"help":
         if len(words) > 1:
             raise Error("there are more words than the command takes")
@@ -54,13 +59,13 @@ def answer(words):
 
 
 def main():
-    # Read as bytes: only a line feed ends a line, only ASCII white space separates words.
+    # Read as bytes: only a line feed ends a line, only these four separate words.
     for number, line in enumerate(sys.stdin.buffer, 1):
-        words = line.split()
+        words = [word for word in re.split(rb"[ \t\f\r]+", line.rstrip(b"\n")) if word]
         if not words or line.startswith(b"#"):
             continue
         try:
-            lines = answer(words)
+            lines = answer(line, words)
         except Error as error:
             lines = ["error %d %s" % (number, error)]
         for text in lines:

@@ -33,12 +33,12 @@ pub fn take_through(message: &[u8]) -> Result<Stages, Fault>
     Ok(Stages { word, coded, kept })
 }
 
-// Bit `entry` of those that are sent.
-fn kept_bit(coded: &[u8], entry: usize) -> u8
+// Bit `index` of those that are sent.
+fn kept_bit(coded: &[u8], index: usize) -> u8
     requires whole { ⌜ length (now coded) ≡ 72 ⌝ }
-    ensures value { λ r. ⌜ r ≡ getD (sent-of (now (coded .entry))) entry 0 ⌝ }
+    ensures value { λ r. ⌜ r ≡ getD (sent-of (now (coded .entry))) index 0 ⌝ }
 {
-    match header_place(entry) {
+    match header_place(index) {
         Some(place) => coded[place],
         None => 0,
     }

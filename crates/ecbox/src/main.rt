@@ -20,14 +20,12 @@ use std::fmt;
 use std::io::BufRead;
 use std::io::BufReader;
 use std::str::from_utf8;
-use text::bits_text;
 use text::refusal_text;
+use text::stage_text;
 
 // What a line asks for.
 #[derive(Drop)]
 enum Command {
-    // Nothing: the line is empty or a comment.
-    Skip,
     Header(Vec<u8>),
     Help,
 }
@@ -88,13 +86,11 @@ fn digits(heap: Global, text: &str) -> Result<Vec<u8>, Misread>
     Ok(values)
 }
 
-fn parse(heap: Global, line: &str) -> Result<Command, Misread> {
-    if line.starts_with('#') {
-        return Ok(Command::Skip);
-    }
-    let mut words = line.split_whitespace();
+// The command of a line, if it is not blank.
+fn parse(heap: Global, line: &str) -> Result<Option<Command>, Misread> {
+    let mut words = line.split_ascii_whitespace();
     let Some(name) = words.next() else {
-        return Ok(Command::Skip);
+        return Ok(None);
     };
     let command = match name {
         "header" => {
@@ -107,15 +103,14 @@ fn parse(heap: Global, line: &str) -> Result<Command, Misread> {
         _ => return Err(Misread::Unknown),
     };
     match words.next() {
-        None => Ok(command),
+        None => Ok(Some(command)),
         Some(_) => Err(Misread::TooManyWords),
     }
 }
 
 fn say_stage(rt: &LibcRuntime, name: &str, bits: &[u8]) -> Result<(), AnyError> {
-    let count = bits.len();
-    let text = bits_text(rt.alloc(), bits)?;
-    println!(rt, "{name} {count} bits {text}")?;
+    let line = stage_text(rt.alloc(), name, bits)?;
+    println!(rt, "{line}")?;
     Ok(())
 }
 
@@ -144,7 +139,6 @@ fn say_help(rt: &LibcRuntime) -> Result<(), AnyError> {
 
 fn carry_out(rt: &LibcRuntime, command: Command) -> Result<(), AnyError> {
     match command {
-        Command::Skip => Ok(()),
         Command::Header(message) => match take_through(message.as_slice()) {
             Ok(stages) => say_stages(rt, message.as_slice(), &stages),
             Err(fault) => say_refusal(rt, fault),
@@ -154,12 +148,16 @@ fn carry_out(rt: &LibcRuntime, command: Command) -> Result<(), AnyError> {
 }
 
 fn answer(rt: &LibcRuntime, number: u64, line: &[u8]) -> Result<(), AnyError> {
+    if line.first() == Some(&b'#') {
+        return Ok(());
+    }
     let command = match from_utf8(line) {
         Ok(text) => parse(rt.alloc(), text),
         Err(_) => Err(Misread::NotText),
     };
     match command {
-        Ok(command) => carry_out(rt, command),
+        Ok(Some(command)) => carry_out(rt, command),
+        Ok(None) => Ok(()),
         Err(misread) => {
             println!(rt, "error {number} {misread}")?;
             Ok(())

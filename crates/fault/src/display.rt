@@ -81,7 +81,10 @@ pub impl fmt::Display for ReceiverFault as ReceiverFaultDisplay {
                 f,
                 "burst {burst} was already accepted as many times as the block allows"
             ),
-            ReceiverFault::NothingHeard => write!(f, "no burst was accepted since opening or the last restart"),
+            ReceiverFault::NothingHeard => write!(
+                f,
+                "no burst was accepted since opening or the last restart"
+            ),
             ReceiverFault::NoSuchPart { part } => write!(f, "the block has no part {part}"),
         }
     }

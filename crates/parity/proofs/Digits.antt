@@ -111,10 +111,10 @@ read-bits-of (suc d) v =
     let b = (v / t) % 2 in
     let h = v / 2 ^ (d + 1) in
     let here : read (b ∷ bits-of d v) ≡ b * t + read (bits-of d v) =
-        read-cons b (bits-of d v) ∙ ap (λ n. b * 2 ^ n + read (bits-of d v)) (bits-of-long d v) in
+    read-cons b (bits-of d v) ∙ ap (λ n. b * 2 ^ n + read (bits-of d v)) (bits-of-long d v) in
     let split : (v / t) * t ≡ (2 * h) * t + b * t = ap (λ n. n * t) (digits-more v d) ∙ add-mul (2 * h) b t in
     let power : h * 2 ^ (d + 1) ≡ (2 * h) * t =
-        ap (λ n. h * n) (ap (λ n. 2 ^ n) (add-one d) ∙ pow-suc 2 d ∙ mul-comm t 2) ∙ sym (mul-assoc h 2 t) ∙ ap (λ n. n * t) (mul-comm h 2) in
+    ap (λ n. h * n) (ap (λ n. 2 ^ n) (add-one d) ∙ pow-suc 2 d ∙ mul-comm t 2) ∙ sym (mul-assoc h 2 t) ∙ ap (λ n. n * t) (mul-comm h 2) in
     let top : (v / 2 ^ suc d) * 2 ^ suc d ≡ h * 2 ^ (d + 1) = ap (λ n. (v / 2 ^ n) * 2 ^ n) (sym (add-one d)) in
     omega (arith, here, split, power, top, read-bits-of d v)
 

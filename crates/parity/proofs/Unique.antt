@@ -118,7 +118,7 @@ one-remainder g sound bits r s one two =
     let b = product (two .quotient) p in
     let level : bitXor a r ≡ bitXor b s = sym (one .whole) ∙ two .whole in
     let both : bitXor a b ≡ bitXor r s =
-        xor-equal (bitXor a b) (bitXor r s) (xor-pairs a b r s ∙ ap (λ n. bitXor n (bitXor b s)) level ∙ xor-self (bitXor b s)) in
+    xor-equal (bitXor a b) (bitXor r s) (xor-pairs a b r s ∙ ap (λ n. bitXor n (bitXor b s)) level ∙ xor-self (bitXor b s)) in
     let m = length (one .quotient) in
     let n = length (two .quotient) in
     let first = replicate {A = ℕ} n 0 ++ one .quotient in
@@ -128,11 +128,11 @@ one-remainder g sound bits r s one two =
     let even : length first ≡ length second = omega (arith, padded-long n (one .quotient), padded-long m (two .quotient)) in
     let q = added p d lead top first second in
     let sum : bitXor a b ≡ product q p =
-        ap₂ bitXor (sym (leading-zeros p d lead top n (one .quotient))) (sym (leading-zeros p d lead top m (two .quotient)))
-        ∙ linear p d lead top 0 0 first second even bits-first bits-second in
+    ap₂ bitXor (sym (leading-zeros p d lead top n (one .quotient))) (sym (leading-zeros p d lead top m (two .quotient)))
+    ∙ linear p d lead top 0 0 first second even bits-first bits-second in
     let under : bitXor r s < 2 ^ d = xor-lt d r s (one .small) (two .small) in
     xor-equal r s
     (⊎-elim
-      (λ (z : product q p ≡ 0). sym both ∙ sum ∙ z)
-      (λ (l : 2 ^ d ≤ product q p). absurd (omega (arith, both, sum, under, l)))
-      (zero-or-large p d lead top q (added-bits p d lead top first second bits-first bits-second)))
+    (λ (z : product q p ≡ 0). sym both ∙ sum ∙ z)
+    (λ (l : 2 ^ d ≤ product q p). absurd (omega (arith, both, sum, under, l)))
+    (zero-or-large p d lead top q (added-bits p d lead top first second bits-first bits-second)))

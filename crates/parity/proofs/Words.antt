@@ -64,7 +64,7 @@ module _ (rule : Rule) (limits : Limits rule) (m : List ℕ) (message : Message 
       let ones = all-ones g in
       let moved = leaves-moved g m zeros p (zeros-bits (g .degree)) (parity .bits) (length-replicate {A = ℕ} (g .degree) 0) (parity .long) (bitXor ones (read p)) lacks in
       let left : bitXor (bitXor ones (read p)) (bitXor (read zeros) (read p)) ≡ ones =
-          ap (bitXor (bitXor ones (read p))) (ap (λ z. bitXor z (read p)) (read-zeros (g .degree)) ∙ xor-zero-l (read p)) ∙ xor-again ones (read p) in
+      ap (bitXor (bitXor ones (read p))) (ap (λ z. bitXor z (read p)) (read-zeros (g .degree)) ∙ xor-zero-l (read p)) ∙ xor-again ones (read p) in
       subst (Leaves g (m ++ p)) left moved
 
   -- a message and right parity are the message's one word
@@ -81,12 +81,12 @@ module _ (rule : Rule) (limits : Limits rule) (m : List ℕ) (message : Message 
           right = right;
         };
         only = λ v other.
-          let q = drop (rule .message) v in
-          let whole : m ++ q ≡ v = ap (λ (t : List ℕ). t ++ q) (sym (other .begins)) ∙ take-append-drop (rule .message) v in
-          let long-q : length q ≡ g .degree = length-drop (rule .message) v ∙ omega (arith, other .word .long, limits .message-and-parity) in
-          let bits-q : Bits q = all-drop (λ b. b < 2) (rule .message) v (other .word .bits) in
-          let same = one-parity g m p q (parity .bits) bits-q (parity .long) long-q (limits .generator) (all-ones g) right (subst (Right-parity rule) (sym whole) (other .right)) in
-          sym whole ∙ ap (λ (t : List ℕ). m ++ t) (sym same);
+            let q = drop (rule .message) v in
+            let whole : m ++ q ≡ v = ap (λ (t : List ℕ). t ++ q) (sym (other .begins)) ∙ take-append-drop (rule .message) v in
+            let long-q : length q ≡ g .degree = length-drop (rule .message) v ∙ omega (arith, other .word .long, limits .message-and-parity) in
+            let bits-q : Bits q = all-drop (λ b. b < 2) (rule .message) v (other .word .bits) in
+            let same = one-parity g m p q (parity .bits) bits-q (parity .long) long-q (limits .generator) (all-ones g) right (subst (Right-parity rule) (sym whole) (other .right)) in
+            sym whole ∙ ap (λ (t : List ℕ). m ++ t) (sym same);
       }
 
   -- and there is such parity
@@ -102,6 +102,6 @@ module _ (rule : Rule) (limits : Limits rule) (m : List ℕ) (message : Message 
       let small : v < 2 ^ d = xor-lt d ones r (omega (arith, left .small)) (left .small) in
       let p = bits-of d v in
       let back : bitXor ones (read p) ≡ r =
-          ap (bitXor ones) (read-back d v small ∙ xor-comm ones r) ∙ xor-comm ones (bitXor r ones) ∙ xor-again r ones in
+      ap (bitXor ones) (read-back d v small ∙ xor-comm ones r) ∙ xor-comm ones (bitXor r ones) ∙ xor-again r ones in
       let parity : Bit-string d p = record { long = bits-of-long d v; bits = bits-of-bits d v } in
       (m ++ p, the-word p parity (made-right p parity (subst (Leaves g (m ++ zeros)) (sym back) left)))

@@ -11,16 +11,16 @@ ghost use Rattle.code.specs.Part.{Message, Sound};
 ghost use Rattle.parity.specs.Division.{Leaves, all-ones, read};
 ghost use Rattle.parity.specs.Register.{next};
 ghost use Rattle.parity.specs.Parity.{Judged, The-word-of};
-mod laws;
 
-pub use laws::division_leaves_one_remainder;
-pub use laws::every_message_has_one_word;
+mod laws;
 
 use code::CodePart;
 use code::Generator;
 use code::check_string;
 use code::check_writing;
 use fault::ParityFault;
+pub use laws::division_leaves_one_remainder;
+pub use laws::every_message_has_one_word;
 
 // Writes the parity bits of a message of a part. It checks the message's length, the output's, then the message's bits.
 pub fn parity<C: CodePart>(part: &C, message: &[u8], out: &mut [u8]) -> Result<(), ParityFault>

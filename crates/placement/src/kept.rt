@@ -5,22 +5,23 @@ ghost use Rattle.std.specs.declared.option.Option.the-variants.{Some};
 ghost use Rattle.std.specs.shelf.Maps.{nth};
 ghost use Rattle.placement.specs.Kept.{header-kept};
 
-// The coded place of the header that is sent as bit `entry`: two of each three are.
-pub fn header_place(entry: usize) -> Option<usize>
-    ensures value { λ r. ⌜ r ≡ nth header-kept entry ⌝ }
-    ensures within { λ r. ⌜ ((c : ℕ) → r ≡ Some c → c < 72) ⌝ }
+// The coded place of the header that is sent as bit `index`.
+pub fn header_place(index: usize) -> Option<usize>
+    ensures value { λ r. ⌜ r ≡ nth header-kept index ⌝ }
+    ensures bound { λ r. ⌜ ((c : ℕ) → r ≡ Some c → c < 72) ⌝ }
 {
-    if entry < 48 {
-        Some(two_of_three(entry))
+    if index < 48 {
+        Some(two_of_three(index))
     } else {
         None
     }
 }
 
-// The place with `entry` kept places before it, where each third place is dropped.
-fn two_of_three(entry: usize) -> usize
-    requires few { ⌜ entry < 48 ⌝ }
-    ensures value { λ r. ⌜ r ≡ 3 * (entry / 2) + entry % 2 ⌝ }
+// Of the places that do not leave 2 when divided by 3, the one with `index` of them before it.
+fn two_of_three(index: usize) -> usize
+    requires few { ⌜ index < 48 ⌝ }
+    ensures kept { λ r. ⌜ r % 3 < 2 ⌝ }
+    ensures before { λ r. ⌜ 2 * (r / 3) + r % 3 ≡ index ⌝ }
 {
-    3 * (entry / 2) + entry % 2
+    3 * (index / 2) + index % 2
 }

@@ -5,8 +5,8 @@ use Rattle.ecbox.proofs.header.kept_bit.Needs as need
 
 pub returns-in-Some : need.returns-in-Some
 returns-in-Some c =
-    record { value = picked (λ n. getD (c .args .coded .now) n 0) header-kept (c .args .entry) (c .in-Some .place) (c .in-Some .ensures tt .value) }
+    record { value = picked (λ n. getD (c .args .coded .now) n 0) header-kept (c .args .index) (c .in-Some .place) (c .in-Some .ensures tt .value) }
 
 pub returns-in-None : need.returns-in-None
 returns-in-None c =
-    record { value = missing (λ n. getD (c .args .coded .now) n 0) header-kept (c .args .entry) (c .in-None .ensures tt .value) }
+    record { value = missing (λ n. getD (c .args .coded .now) n 0) header-kept (c .args .index) (c .in-None .ensures tt .value) }

@@ -8,6 +8,6 @@ pub returns : need.returns
 returns c =
     record {
       law = λ g sound bits h.
-        let left = leaves-computed g sound bits h in
-        (folded (next g) 0 bits, left, λ s other. one-remainder g sound bits s (folded (next g) 0 bits) other left);
+          let left = leaves-computed g sound bits h in
+          (folded (next g) 0 bits, left, λ s other. one-remainder g sound bits s (folded (next g) 0 bits) other left);
     }

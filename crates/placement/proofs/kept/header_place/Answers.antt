@@ -1,5 +1,5 @@
-use mathlib.Core.Path.{_≡_, refl, sym, ap, _∙_}
 use mathlib.Core.Bool.{Bool, true}
+use mathlib.Core.Path.{_≡_, refl, sym, ap, _∙_}
 use Prim.Native.Nat.{ℕ, _+_, _*_, _/_, _%_, _<_}
 use native.Mathlib.Omega.{arith}
 use lib.Dec.{eqb}
@@ -22,19 +22,21 @@ all-by-formula : tested 48 by-formula ≡ true
 unfolding kept
 all-by-formula = refl
 
-pub returns-then-entry-lt48 : need.returns-then-entry-lt48
-returns-then-entry-lt48 c =
-    let j = c .args .entry in
+pub returns-then-index-lt48 : need.returns-then-index-lt48
+returns-then-index-lt48 c =
+    let j = c .args .index in
+    let r = c .two-of-three .result in
     let inside : j < length header-kept = omega (arith, long) in
-    let place = eqb-true (getD header-kept j 0) _ (tested-at 48 by-formula all-by-formula j (c .if-entry-lt48 .taken)) in
+    let place = eqb-true (getD header-kept j 0) _ (tested-at 48 by-formula all-by-formula j (c .if-index-lt48 .taken)) in
+    let found : r ≡ 3 * (j / 2) + j % 2 = omega (arith, c .two-of-three .ensures .kept, c .two-of-three .ensures .before) in
     record {
-      value = sym (nth-getD header-kept j 0 inside ∙ ap Some (place ∙ sym (c .two-of-three .ensures .value)));
-      within = λ n e. let same : c .two-of-three .result ≡ n = cc in omega arith;
+      value = sym (nth-getD header-kept j 0 inside ∙ ap Some (place ∙ sym found));
+      bound = λ n e. let same : r ≡ n = cc in omega (arith, found);
     }
 
-pub returns-else-entry-lt48 : need.returns-else-entry-lt48
-returns-else-entry-lt48 c =
+pub returns-else-index-lt48 : need.returns-else-index-lt48
+returns-else-index-lt48 c =
     record {
-      value = sym (nth-past header-kept (c .args .entry) (omega (arith, long)));
-      within = λ n e. let z : _≡_ {A = ℕ} 0 1 = cc in absurd (omega arith);
+      value = sym (nth-past header-kept (c .args .index) (omega (arith, long)));
+      bound = λ n e. let z : _≡_ {A = ℕ} 0 1 = cc in absurd (omega arith);
     }
