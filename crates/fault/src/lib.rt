@@ -199,3 +199,82 @@ fn receiver_detail(fault: ReceiverFault) -> Detail
         ReceiverFault::NoSuchPart { part } => Detail::Number(part),
     }
 }
+
+#[cfg(test)]
+mod tests {
+    use super::*;
+    use std::test::*;
+
+    // Every case, with what an operator reads of it.
+    const SENTENCES: [(Fault, &str); 15] = [
+        (
+            Fault::Value(ValueFault::Length { buffer: 2 }),
+            "refused by 1 in the value layer: buffer 2 has the wrong length",
+        ),
+        (
+            Fault::Value(ValueFault::Weight),
+            "refused by 8 in the value layer: the weight or amplitude is not finite or is below zero",
+        ),
+        (
+            Fault::Value(ValueFault::Noise),
+            "refused by 8 in the value layer: the noise is not finite or is not above zero",
+        ),
+        (
+            Fault::Value(ValueFault::Quotient),
+            "refused by 8 in the value layer: amplitude divided by noise is not finite",
+        ),
+        (
+            Fault::Parity(ParityFault::Length { buffer: 1 }),
+            "refused by 1 in the parity layer: buffer 1 has the wrong length",
+        ),
+        (
+            Fault::Parity(ParityFault::NotABit { index: 17 }),
+            "refused by 2 in the parity layer: byte 17 is neither 0 nor 1",
+        ),
+        (
+            Fault::Parity(ParityFault::WrongParity { part: 1, cost: 340 }),
+            "refused by 6 in the parity layer: the word found for part 1 has wrong parity, and no word costs less than 340",
+        ),
+        (
+            Fault::Placement(PlacementFault::NoSuchBurst { burst: 2 }),
+            "refused by 3 in the placement layer: the block has no burst 2",
+        ),
+        (
+            Fault::Receiver(ReceiverFault::Length { buffer: 1 }),
+            "refused by 1 in the receiver layer: buffer 1 has the wrong length",
+        ),
+        (
+            Fault::Receiver(ReceiverFault::NoMoreRepeats { burst: 0 }),
+            "refused by 4 in the receiver layer: burst 0 was already accepted as many times as the block allows",
+        ),
+        (
+            Fault::Receiver(ReceiverFault::NothingHeard),
+            "refused by 5 in the receiver layer: no burst was accepted since opening or the last restart",
+        ),
+        (
+            Fault::Receiver(ReceiverFault::NoSuchPart { part: 3 }),
+            "refused by 7 in the receiver layer: the block has no part 3",
+        ),
+        (
+            Fault::Timing(TimingFault::Total),
+            "refused by 9 in the timing layer: the block is not sent that many times",
+        ),
+        (
+            Fault::Timing(TimingFault::Repeat),
+            "refused by 9 in the timing layer: there is no repeat of that number",
+        ),
+        (
+            Fault::Timing(TimingFault::Slots),
+            "refused by 9 in the timing layer: the block does not use that many slots, or has no slot of that number",
+        ),
+    ];
+
+    #[test]
+    fn an_operator_reads_a_sentence(rt: LibcRuntime) -> Result<(), Fail> {
+        for (fault, sentence) in SENTENCES {
+            let text = format!(rt.alloc(), "{fault}")?;
+            check_eq(text.as_str(), sentence)?;
+        }
+        Ok(())
+    }
+}

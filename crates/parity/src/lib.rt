@@ -166,7 +166,6 @@ mod tests {
     use fault::DetailDebug;
     use fault::DetailPartialEq;
     use fault::Fault;
-    use fault::FaultDisplay;
     use fault::FaultFromParity;
     use fault::Layer;
     use fault::LayerDebug;
@@ -206,7 +205,7 @@ mod tests {
     }
 
     #[test]
-    fn a_refusal_is_told_by_number_layer_detail_and_in_words(rt: LibcRuntime) -> Result<(), Fail> {
+    fn a_refusal_is_told_by_number_layer_and_detail() -> Result<(), Fail> {
         let mut bits = [0u8; 8];
         let message = [0, 1, 0, 3, 1, 1, 0, 0, 1, 9, 0, 0, 0, 0, 0, 0];
         let Err(refusal) = parity(&EcPart::McsHeader, &message, &mut bits) else {
@@ -215,11 +214,6 @@ mod tests {
         let fault = Fault::from(refusal);
         check_eq(fault.number(), 2)?;
         check_eq(fault.layer(), Layer::Parity)?;
-        check_eq(fault.detail(), Detail::Number(3))?;
-        let text = format!(rt.alloc(), "{fault}")?;
-        check_eq(
-            text.as_str(),
-            "refused by 2 in the parity layer: byte 3 is neither 0 nor 1",
-        )
+        check_eq(fault.detail(), Detail::Number(3))
     }
 }
