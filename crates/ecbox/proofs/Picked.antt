@@ -1,16 +1,11 @@
--- Entries of a list, picked by `nth`, and how many a header's kept list has.
+-- Entries of a list, picked by `nth`.
 use mathlib.Core.List.{List, [], _∷_, map}
 use mathlib.Core.Path.{_≡_, refl, ap}
 use Prim.Native.Nat.{ℕ, zero, suc}
 use native.Mathlib.Omega.{arith}
-use lib.ListN.{length, getD}
+use lib.ListN.{getD}
 use Rattle.std.specs.declared.option.Option.the-variants.{Some, None}
 use Rattle.std.specs.shelf.Maps.{nth}
-use Rattle.placement.specs.Kept.{kept, header-kept}
-
-pub header-long : length header-kept ≡ 48
-unfolding kept
-header-long = refl
 
 module _ (f : ℕ → ℕ) where
   pub picked : (xs : List ℕ) (k x : ℕ) → Some x ≡ nth xs k → f x ≡ getD (map f xs) k 0

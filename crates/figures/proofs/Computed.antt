@@ -3,17 +3,21 @@ use mathlib.Core.Bool.{Bool, true, false, _&&_}
 use mathlib.Core.List.{List, [], _∷_, _++_, map}
 use mathlib.Core.Path.{_≡_, refl, subst, ap₂}
 use Prim.Native.Nat.{ℕ}
-use lib.Dec.{ltb, eqb}
+use lib.Dec.{eqb}
 use lib.ListN.{length}
 use Rattle.std.specs.Iters.{counting, folded}
+use Rattle.std.specs.Results.{isOk}
+use Rattle.std.specs.Vec.{made}
+use Rattle.std.specs.declared.result.Result.the-variants.{Ok, Err}
 use Rattle.std.specs.shelf.Lists.{All}
 use Rattle.std.proofs.shelf.Lists.{take-at}
-use Rattle.std.proofs.shelf.Tests.{and-parts, eqb-true, ltb-true, false≢true}
-use Rattle.code.specs.Bits.{Bits}
+use Rattle.std.proofs.shelf.Tests.{and-parts, eqb-true, false≢true}
+use Rattle.code.specs.Bits.{Checked, string-check}
 use Rattle.code.specs.Convolution.{coded}
-use Rattle.code.specs.Part.{Limits}
+use Rattle.code.specs.Part.{Limits, Word}
 use Rattle.code.specs.Parts.{rule-of}
 use Rattle.code.specs.declared.parts.EcPart.the-variants.{McsHeader}
+use Rattle.code.proofs.Checks.{string-made}
 use Rattle.code.proofs.Limits.{table-limits}
 use Rattle.code.specs.declared.part.Rule.{Rule}
 use Rattle.parity.specs.Division.{Leaves, all-ones}
@@ -23,31 +27,26 @@ use Rattle.parity.proofs.Steps.{leaves-computed}
 use Rattle.placement.specs.Kept.{header-kept}
 use Rattle.figures.specs.Figures.{Figure, parity-of, coded-bits, header-bits, Holds}
 
-abbrev all-bits : List ℕ → Bool
-all-bits [] = true
-all-bits (b ∷ bs) = ltb b 2 && all-bits bs
-
-tested-bits : (bits : List ℕ) → all-bits bits ≡ true → Bits bits
-tested-bits [] t = tt
-tested-bits (b ∷ bits) t =
-    let parts = and-parts (ltb b 2) (all-bits bits) t in (ltb-true b 2 (parts .0), tested-bits bits (parts .1))
+passed : {P : Type 0} (r : Checked) → isOk r ≡ true → made r (λ _. P) → P
+passed (Ok t) e h = h
+passed (Err f) e h = absurd (false≢true e)
 
 -- message and parity have a part's lengths, are bits, and leave every coefficient 1
 abbrev word-test : Rule → List ℕ → List ℕ → Bool
 word-test rule m p =
-    eqb (length m) (rule .message) && eqb (length (m ++ p)) (rule .word) && all-bits (m ++ p)
+    eqb (length m) (rule .message) && isOk (string-check (m ++ p) (rule .word))
     && eqb (folded (next (rule .generator)) 0 (m ++ p)) (all-ones (rule .generator))
 
 tested-word : (rule : Rule) → Limits rule → (m p : List ℕ) → word-test rule m p ≡ true → Word-of rule m (m ++ p)
 tested-word rule limits m p t =
     let a = and-parts _ _ t in
     let b = and-parts _ _ (a .0) in
-    let c = and-parts _ _ (b .0) in
-    let bits = tested-bits (m ++ p) (b .1) in
+    let w = m ++ p in
+    let word : Word rule w = passed (string-check w (rule .word)) (b .1) (string-made w (rule .word) (string-check w (rule .word)) refl) in
     record {
-      word = record { long = eqb-true _ _ (c .1); bits = bits };
-      begins = take-at m p (rule .message) (eqb-true _ _ (c .0));
-      right = subst (Leaves (rule .generator) (m ++ p)) (eqb-true _ _ (a .1)) (leaves-computed (rule .generator) (limits .generator) (m ++ p) bits);
+      word = word;
+      begins = take-at m p (rule .message) (eqb-true _ _ (b .0));
+      right = subst (Leaves (rule .generator) w) (eqb-true _ _ (a .1)) (leaves-computed (rule .generator) (limits .generator) w (word .bits));
     }
 
 abbrev same-bits : List ℕ → List ℕ → Bool

@@ -3,8 +3,8 @@ use native.Mathlib.Omega.{arith}
 use lib.ListN.{length, getD}
 use Rattle.std.proofs.shelf.Lists.{length-map, ext-getD}
 use Rattle.placement.specs.Kept.{header-kept}
+use Rattle.placement.proofs.Header.{header-long}
 use Rattle.ecbox.specs.Stages.{sent-of}
-use Rattle.ecbox.proofs.Picked.{header-long}
 use Rattle.ecbox.proofs.header.write_kept.Needs as need
 
 pub returns : need.returns
