@@ -1,4 +1,6 @@
 // Blocks: what is sent in one go, made of code parts and a pile of placements.
+#![tactic(auto)]
+
 mod block;
 mod blocks;
 mod pile;

@@ -1,4 +1,6 @@
 // Code parts, their words, and the convolutional code.
+#![tactic(auto)]
+
 mod check;
 mod convolution;
 mod laws;

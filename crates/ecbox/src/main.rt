@@ -1,4 +1,6 @@
 // A console for the codec: one command a line on standard input, each answered on standard output.
+#![tactic(auto)]
+
 ghost use Rattle.std.specs.Prelude.{◌≡◌, ◌⊎◌, MatchResult};
 ghost use Rattle.ecbox.specs.declared.Misread.TheVariants.{NoMemory, NotBits};
 ghost use Rattle.ecbox.specs.Digits.{Digits, digit_values};

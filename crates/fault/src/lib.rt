@@ -1,4 +1,6 @@
 // Why a call is refused: one enum for each layer, and `Fault` over them. A fault tells a number, its layer and a detail.
+#![tactic(auto)]
+
 ghost use Rattle.std.specs.Prelude.{◌≡◌};
 ghost use Rattle.fault.specs.Fault.{number_of, layer_of, detail_of};
 ghost use Rattle.fault.specs.declared.Fault.TheVariants.{Value, Parity, Placement, Receiver, Timing};

@@ -1,4 +1,6 @@
 // Parity by division of polynomials over GF(2), for any code part.
+#![tactic(auto)]
+
 ghost use Rattle.std.specs.Prelude.{◌≡◌, ℕ, ◌^◌, ◌<◌, ◌≤◌, ◌++◌, length, replicate, Decides, OnErr, OnOk, bit_xor};
 ghost use Rattle.code.specs.Bits.{Bits, writing_check};
 ghost use Rattle.code.specs.Part.{Message, Sound};

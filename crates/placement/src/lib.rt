@@ -1,4 +1,6 @@
 // Where coded bits go: placements, and the layers that are put over them.
+#![tactic(auto)]
+
 mod interleaver;
 mod kept;
 mod layers;

@@ -1,4 +1,6 @@
 // Puncturing: the coded places that are sent, as the bottom of a pile of placements.
+#![tactic(auto)]
+
 ghost use Rattle.std.specs.Prelude.{◌≡◌, ◌<◌, ◌≤◌, slice_index};
 ghost use Rattle.puncturing.specs.Closed.{even_place, residue_place, data_place, mcs_place};
 ghost use Rattle.puncturing.specs.Lists.{figures_of, kept_of, listed, KeptLists};

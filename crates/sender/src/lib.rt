@@ -1,4 +1,6 @@
 // Sending: the bursts of a message, for any block.
+#![tactic(auto)]
+
 ghost use Rattle.std.specs.Prelude.{◌≡◌, ◌+◌, ◌*◌, ◌≤◌, length, OnErr, OnOk};
 ghost use Rattle.code.specs.Bits.{Bits, writing_check};
 ghost use Rattle.code.specs.Part.{Message, places};

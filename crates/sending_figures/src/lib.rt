@@ -1,4 +1,6 @@
 // The worked figures, proved of the definitions that the code is proved against.
+#![tactic(auto)]
+
 ghost use Rattle.sending_figures.specs.Figures.{FiguresHold};
 
 // Every figure of the list holds.

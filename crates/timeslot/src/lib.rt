@@ -1,4 +1,6 @@
 // Timeslots: which burst of which slot carries a burst of a repeat of a block, and back.
+#![tactic(auto)]
+
 ghost use Rattle.std.specs.Prelude.{◌≡◌, ◌<◌, true, IfOk, Ok};
 ghost use Rattle.fault.specs.Check.{unless};
 ghost use Rattle.timeslot.specs.Timeslot.{total_permitted, slots_permitted, slots_used, on_slot, in_block, timeslot, repeat_at};
