@@ -2,7 +2,7 @@
 use Rattle.std.proofs.Common.{◌≡◌, ℕ, zero, suc, ◌+◌, ◌-◌, ◌/◌, ◌%◌, Bool, true, false, cond, eqb, ltb, List, [], ◌∷◌, map, length, get_or, sym, refl, ap, ◌∙◌, ap₂, arith}
 use Rattle.code.specs.declared.part.Ending.{Ending}
 use Rattle.code.specs.declared.part.Ending.TheVariants.{TailBiting, ZeroTail}
-use Rattle.code.specs.Convolution.{before, back, sums, coded, coded_word}
+use Rattle.code.specs.Convolution.{before, back, coded, coded_word}
 use Rattle.std.specs.List.{range_with_len}
 use Rattle.code.specs.Bits.{sum_word}
 use Rattle.code.specs.Part.{places}

@@ -49,8 +49,8 @@ pub fn coded_bit(ending: Ending, word: &[u8], place: usize) -> u8
 
 // Writes the coded bits of a word.
 fn write_coded<C: CodePart>(part: &C, word: &[u8], out: &mut [u8])
-    requires room { length out.old ≡ places (rule part.now) }
-    ensures after { out.new ≡ coded_word (rule part.now) word.now }
+    requires room { length out.old ≡ places (C.rule part.now) }
+    ensures after { out.new ≡ coded_word (C.rule part.now) word.now }
 {
     let ending = part.ending();
     for (place, bit) in out.iter_mut().enumerate() {
@@ -60,9 +60,9 @@ fn write_coded<C: CodePart>(part: &C, word: &[u8], out: &mut [u8])
 
 // Writes the coded bits of a word of a part. It checks the word's length, the output's, then the word's bits.
 pub fn encode<C: CodePart>(part: &C, word: &[u8], out: &mut [u8]) -> Result<(), ParityFault>
-    ensures refusal { result ≡ writing_check word.now (rule part.now).word (length out.old) (places (rule part.now)) }
+    ensures refusal { result ≡ writing_check word.now (C.rule part.now).word (length out.old) (places (C.rule part.now)) }
     ensures same { OnErr result (out.new ≡ out.old) }
-    ensures after { OnOk result (out.new ≡ coded_word (rule part.now) word.now) }
+    ensures after { OnOk result (out.new ≡ coded_word (C.rule part.now) word.now) }
 {
     check_writing(word, part.word_length(), out.len(), part.coded_count())?;
     write_coded(part, word, out);

@@ -16,9 +16,9 @@ pub use laws::{division_leaves_one_remainder, every_message_has_one_word};
 
 // Writes the parity bits of a message of a part. It checks the message's length, the output's, then the message's bits.
 pub fn parity<C: CodePart>(part: &C, message: &[u8], out: &mut [u8]) -> Result<(), ParityFault>
-    ensures refusal { result ≡ writing_check message.now (rule part.now).message (length out.old) (rule part.now).generator.degree }
+    ensures refusal { result ≡ writing_check message.now (C.rule part.now).message (length out.old) (C.rule part.now).generator.degree }
     ensures same { OnErr result (out.new ≡ out.old) }
-    ensures after { OnOk result (TheWordOf (rule part.now) message.now (message.now ++ out.new)) }
+    ensures after { OnOk result (TheWordOf (C.rule part.now) message.now (message.now ++ out.new)) }
 {
     check_writing(
         message,
@@ -33,9 +33,9 @@ pub fn parity<C: CodePart>(part: &C, message: &[u8], out: &mut [u8]) -> Result<(
 // Writes the word of a message: the message, then its parity. It checks the message's length, the word's, then the
 // message's bits.
 pub fn protect<C: CodePart>(part: &C, message: &[u8], word: &mut [u8]) -> Result<(), ParityFault>
-    ensures refusal { result ≡ writing_check message.now (rule part.now).message (length word.old) (rule part.now).word }
+    ensures refusal { result ≡ writing_check message.now (C.rule part.now).message (length word.old) (C.rule part.now).word }
     ensures same { OnErr result (word.new ≡ word.old) }
-    ensures after { OnOk result (TheWordOf (rule part.now) message.now word.new) }
+    ensures after { OnOk result (TheWordOf (C.rule part.now) message.now word.new) }
 {
     check_writing(
         message,
@@ -49,7 +49,7 @@ pub fn protect<C: CodePart>(part: &C, message: &[u8], word: &mut [u8]) -> Result
 
 // Whether the parity of a word of a part is right. It checks the word's length, then its bits.
 pub fn parity_right<C: CodePart>(part: &C, word: &[u8]) -> Result<bool, ParityFault>
-    ensures value { Judged (rule part.now) word.now result }
+    ensures value { Judged (C.rule part.now) word.now result }
 {
     check_string(word, part.word_length())?;
     Ok(leaves_ones(part.generator(), word))
@@ -57,18 +57,18 @@ pub fn parity_right<C: CodePart>(part: &C, word: &[u8]) -> Result<bool, ParityFa
 
 // Writes the parity of a message.
 fn write_parity<C: CodePart>(part: &C, message: &[u8], out: &mut [u8])
-    requires message { Message (rule part.now) message.now }
-    requires room { length out.old ≡ (rule part.now).generator.degree }
-    ensures after { TheWordOf (rule part.now) message.now (message.now ++ out.new) }
+    requires message { Message (C.rule part.now) message.now }
+    requires room { length out.old ≡ (C.rule part.now).generator.degree }
+    ensures after { TheWordOf (C.rule part.now) message.now (message.now ++ out.new) }
 {
     write_number(parity_number(part.generator(), message), out);
 }
 
 // Writes a message and its parity.
 fn write_word<C: CodePart>(part: &C, message: &[u8], word: &mut [u8])
-    requires message { Message (rule part.now) message.now }
-    requires room { length word.old ≡ (rule part.now).word }
-    ensures after { TheWordOf (rule part.now) message.now word.new }
+    requires message { Message (C.rule part.now) message.now }
+    requires room { length word.old ≡ (C.rule part.now).word }
+    ensures after { TheWordOf (C.rule part.now) message.now word.new }
 {
     let m = message.len();
     word[0..m].copy_from_slice(message);

@@ -11,7 +11,7 @@ pub loop-zero-preserved : goal.loop-zero-preserved
 loop-zero-preserved c =
     let g = c.args.generator in
     let message = c.args.message.now in
-    let i = c.loop-zero.-zero in
+    let i = c.loop-zero._zero in
     let r = c.loop-zero.register in
     let more = leaves_more g c.requires.sound (message ++ replicate {A = ℕ} i 0) r 0 c.loop-zero.invariant (omega arith) in
     let longer : (message ++ replicate {A = ℕ} i 0) ++ (0 ∷ []) ≡ message ++ replicate {A = ℕ} (i + 1) 0 =
@@ -23,7 +23,7 @@ returns c =
     let g = c.args.generator in
     let d = g.degree in
     let r = c.loop-zero.register in
-    let end : c.loop-zero.-zero ≡ d = omega arith in
+    let end : c.loop-zero._zero ≡ d = omega arith in
     let left : Leaves g (c.args.message.now ++ replicate d 0) r = rw end at c.loop-zero.invariant in
     let back : bit_xor (all_ones g) (bit_xor r (all_ones g)) ≡ r = xor_comm (all_ones g) (bit_xor r (all_ones g)) ∙ xor_again r (all_ones g) in
     rw c.ones.ensures.value (record {

@@ -13,8 +13,8 @@ returns g c =
     let limits = g.met.C.CodePart.limits part in
     let p = rule.generator in
     let m = c.args.message.now in
-    let out = c.write-number.new.out in
-    let parity : BitString p.degree out = record { long = c.write-number.auto.out ∙ c.requires.room; bits = c.write-number.ensures.bits } in
-    let lacks = subst (λ (q : Generator). Leaves q (m ++ replicate {A = ℕ} q.degree 0) (bit_xor (all_ones q) c.parity-number.result)) c.generator.ensures.value c.parity-number.ensures.leaves in
-    let lacks-out = subst (λ (n : ℕ). Leaves p (m ++ replicate {A = ℕ} p.degree 0) (bit_xor (all_ones p) n)) (sym c.write-number.ensures.after) lacks in
+    let out = c.write_number.new.out in
+    let parity : BitString p.degree out = record { long = c.write_number.auto.out ∙ c.requires.room; bits = c.write_number.ensures.bits } in
+    let lacks = subst (λ (q : Generator). Leaves q (m ++ replicate {A = ℕ} q.degree 0) (bit_xor (all_ones q) c.parity_number.result)) c.generator.ensures.value c.parity_number.ensures.leaves in
+    let lacks-out = subst (λ (n : ℕ). Leaves p (m ++ replicate {A = ℕ} p.degree 0) (bit_xor (all_ones p) n)) (sym c.write_number.ensures.after) lacks in
     record { after = the_word rule limits m c.requires.message out parity (made_right rule limits m c.requires.message out parity lacks-out) }

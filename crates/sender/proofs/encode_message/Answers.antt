@@ -7,8 +7,8 @@ use Rattle.sender.proofs.encode_message.Goals as goal
 pub unreachable-requires : goal.unreachable-requires
 unreachable-requires g c =
     let limits = g.met.C.CodePart.limits c.args.part.now in
-    let end : c.word-length.result ≤ 256 = omega (arith, limits.word_most, c.word-length.ensures.value) in
-    let refused = c.in-default.ensures.refusal ∙ writing_passes _ _ _ _ c.requires.message (length-between _ 0 c.word-length.result end ∙ omega (arith, c.word-length.ensures.value)) in
+    let end : c.word_length.result ≤ 256 = omega (arith, limits.word_most, c.word_length.ensures.value) in
+    let refused = c.in-default.ensures.refusal ∙ writing_passes _ _ _ _ c.requires.message (length-between _ 0 c.word_length.result end ∙ omega (arith, c.word_length.ensures.value)) in
     let z : ◌≡◌ {A = ℕ} 0 1 = cc in
     omega arith
 

@@ -6,20 +6,20 @@ use Rattle.code.specs.Part.{places}
 use Rattle.sender.specs.Written.{PartEncoded}
 use Rattle.sender.proofs.encode_part.Goals as goal
 
-pub encode-message-requires : goal.encode-message-requires
-encode-message-requires g c =
+pub encode_message-requires : goal.encode_message-requires
+encode_message-requires g c =
     let from = c.args.from in
     let start = c.args.start in
     let m = c.message_length.result in
-    let k = c.coded-count.result in
+    let k = c.coded_count.result in
     let until : from + m ≤ length c.args.message.now = omega (arith, c.message_length.ensures.value, c.requires.whole) in
-    let end : start + k ≤ length c.args.coded.now = omega (arith, c.coded-count.ensures.value, c.requires.room) in
+    let end : start + k ≤ length c.args.coded.now = omega (arith, c.coded_count.ensures.value, c.requires.room) in
     record {
       message = record {
         long = length-between c.args.message.now from (from + m) until ∙ omega (arith, c.message_length.ensures.value);
         bits = All-take _ _ _ (All-drop _ from c.args.message.now c.requires.binary);
       };
-      room = length-between c.args.coded.now start (start + k) end ∙ omega (arith, c.coded-count.ensures.value);
+      room = length-between c.args.coded.now start (start + k) end ∙ omega (arith, c.coded_count.ensures.value);
     }
 
 pub returns : goal.returns
@@ -27,15 +27,15 @@ returns g c =
     let rule = g.C.CodePart.rule c.args.part.now in
     let start = c.args.start in
     let m = c.message_length.result in
-    let k = c.coded-count.result in
+    let k = c.coded_count.result in
     let old = c.args.coded.now in
-    let out = c.encode-message.new.coded in
-    let end : start + k ≤ length old = omega (arith, c.coded-count.ensures.value, c.requires.room) in
-    let long : length out ≡ k = c.encode-message.auto.coded ∙ length-between old start (start + k) end ∙ omega arith in
+    let out = c.encode_message.new.coded in
+    let end : start + k ≤ length old = omega (arith, c.coded_count.ensures.value, c.requires.room) in
+    let long : length out ≡ k = c.encode_message.auto.coded ∙ length-between old start (start + k) end ∙ omega arith in
     record {
       after = record {
         coded = out;
-        encoded = subst (λ (n : ℕ). PartEncoded rule (take n (drop c.args.from c.args.message.now)) out) (omega (arith, c.message_length.ensures.value)) c.encode-message.ensures.after;
-        front = take-put_mid start _ old out (start + places rule) (omega (arith, long, c.coded-count.ensures.value)) (omega (arith, end));
+        encoded = subst (λ (n : ℕ). PartEncoded rule (take n (drop c.args.from c.args.message.now)) out) (omega (arith, c.message_length.ensures.value)) c.encode_message.ensures.after;
+        front = take-put_mid start _ old out (start + places rule) (omega (arith, long, c.coded_count.ensures.value)) (omega (arith, end));
       };
     }

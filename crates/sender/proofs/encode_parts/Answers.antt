@@ -10,8 +10,8 @@ use Rattle.sender.proofs.encode_parts.Goals as goal
 pub unreachable-requires : goal.unreachable-requires
 unreachable-requires g c = some_at (g.B.Block.layout c.args.block.now).parts c.loop-number.number (omega arith) (sym c.in-default.ensures.value)
 
-pub encode-part-requires : goal.encode-part-requires
-encode-part-requires g c =
+pub encode_part-requires : goal.encode_part-requires
+encode_part-requires g c =
     let parts = (g.B.Block.layout c.args.block.now).parts in
     let first = drop_step parts c.loop-number.number _ (sym c.in-Some.ensures.value) in
     record {
@@ -31,10 +31,10 @@ loop-number-preserved g c =
     let first = drop_step parts p rule (sym c.in-Some.ensures.value) in
     let before : (rest : List ℕ) → Encoded (rule ∷ drop (p + 1) parts) (drop from m) rest → Encoded parts m (take c.loop-number.start old ++ rest) =
     λ rest e. c.loop-number.invariant.2 rest (subst (λ (rs : List Rule). Encoded rs (drop from m) rest) (sym first) e) in (
-      omega (arith, ap (total (λ p. p.message)) first, c.loop-number.invariant.0, c.message-length-from.ensures.value),
-      omega (arith, ap (total places) first, c.loop-number.invariant.1, c.coded-count-start.ensures.value, c.encode-part.auto.coded),
-      encoded_more parts (drop (p + 1) parts) rule m old c.encode-part.new.coded from _ c.loop-number.start _
-          (omega (arith, c.message-length-from.ensures.value)) (omega (arith, c.coded-count-start.ensures.value)) c.encode-part.ensures.after before,
+      omega (arith, ap (total (λ p. p.message)) first, c.loop-number.invariant.0, c.message_length-from.ensures.value),
+      omega (arith, ap (total places) first, c.loop-number.invariant.1, c.coded_count-start.ensures.value, c.encode_part.auto.coded),
+      encoded_more parts (drop (p + 1) parts) rule m old c.encode_part.new.coded from _ c.loop-number.start _
+          (omega (arith, c.message_length-from.ensures.value)) (omega (arith, c.coded_count-start.ensures.value)) c.encode_part.ensures.after before,
     )
 
 pub returns : goal.returns

@@ -16,8 +16,8 @@ loop-number-preserved g c =
     let messages = ap (total (λ p. p.message)) first in
     let coded = ap (total places) first in
     let below = message_below_places rule (g.met.Part.CodePart.limits c.in-Some.part) in (
-      omega (arith, messages, c.loop-number.invariant.0, c.message-length-length.ensures.value),
-      omega (arith, coded, below, c.loop-number.invariant.1, c.message-length-length.ensures.value),
+      omega (arith, messages, c.loop-number.invariant.0, c.message_length-length.ensures.value),
+      omega (arith, coded, below, c.loop-number.invariant.1, c.message_length-length.ensures.value),
     )
 
 pub returns : goal.returns

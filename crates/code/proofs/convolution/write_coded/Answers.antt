@@ -9,7 +9,7 @@ pub loop-place-preserved : goal.loop-place-preserved
 loop-place-preserved g c =
     below_more _ _
     (λ k h. let other : k ≢ c.loop-place.place = omega arith in rw get_or-set_other (c.loop-place.invariant k h))
-    (let inside : c.loop-place.place < length c.loop-place.out = omega arith in rw get_or-set_same c.coded-bit.ensures.value)
+    (let inside : c.loop-place.place < length c.loop-place.out = omega arith in rw get_or-set_same c.coded_bit.ensures.value)
 
 pub returns : goal.returns
 returns g c =

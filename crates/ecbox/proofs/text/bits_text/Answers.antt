@@ -11,8 +11,8 @@ pub loop-bit-preserved : goal.loop-bit-preserved
 loop-bit-preserved c =
     let bits = c.args.bits.now in
     let i = c.loop-bit.bit-index in
-    let is = c.bit-char.ensures.value in
-    let small : c.bit-char.result < 128 = rw is (code_small (get_or bits i 0)) in
+    let is = c.bit_char.ensures.value in
+    let small : c.bit_char.result < 128 = rw is (code_small (get_or bits i 0)) in
     c.in-ok-push.ensures.bytes
     ∙ ap (λ (cs : List ℕ). string_bytes c.loop-bit.text ++ cs) (c.in-ok-push.ensures.ascii small ∙ ap (λ n. n ∷ []) is)
     ∙ ap (λ (cs : List ℕ). cs ++ (bit_code (get_or bits i 0) ∷ [])) c.loop-bit.invariant

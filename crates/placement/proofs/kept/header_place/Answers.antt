@@ -7,9 +7,9 @@ use Rattle.placement.proofs.kept.header_place.Goals as goal
 pub returns-then-index-lt48 : goal.returns-then-index-lt48
 returns-then-index-lt48 c =
     let j = c.args.index in
-    let r = c.two-of-three.result in
+    let r = c.two_of_three.result in
     let inside : j < length header_kept = omega (arith, header_long) in
-    let found : r ≡ 3 * (j / 2) + j % 2 = omega (arith, c.two-of-three.ensures.kept, c.two-of-three.ensures.before) in
+    let found : r ≡ 3 * (j / 2) + j % 2 = omega (arith, c.two_of_three.ensures.kept, c.two_of_three.ensures.before) in
     record {
       value = sym (slice_get-get_or header_kept j 0 inside ∙ ap Some (header_at j c.if-index-lt48.true ∙ sym found));
       bound = λ n e. let same : r ≡ n = cc in omega (arith, found);

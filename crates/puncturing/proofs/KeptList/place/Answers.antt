@@ -17,6 +17,6 @@ pub returns-in-default : goal.returns-in-default
 returns-in-default c =
     let j = c.args.index in
     record {
-      value = c.even-place.ensures.value ∙ ap (λ (f : Figures). even_place f j) c.figures.ensures.value
+      value = c.even_place.ensures.value ∙ ap (λ (f : Figures). even_place f j) c.figures.ensures.value
           ∙ sym (even_at c.args.self c.in-default.not-Mcs j c.requires.few);
     }

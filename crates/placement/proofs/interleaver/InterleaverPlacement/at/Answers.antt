@@ -6,9 +6,9 @@ use Rattle.placement.proofs.interleaver.InterleaverPlacement.at.Goals as goal
 
 pub returns-then-place-lt424 : goal.returns-then-place-lt424
 returns-then-place-lt424 c =
-    let entry = c.entry-at.ensures in
+    let entry = c.entry_at.ensures in
     record {
-      value = sym (moved_at spot c.args.place 424 c.entry-at.result entry.bound entry.value entry.only);
+      value = sym (moved_at spot c.args.place 424 c.entry_at.result entry.bound entry.value entry.only);
       rule = λ k h e. ap Coded (sym (entry.only k h e));
     }
 
