@@ -8,7 +8,7 @@ use Rattle.sender.proofs.Parts.{some_at, drop_step, encoded_none, encoded_more}
 use Rattle.sender.proofs.encode_parts.Goals as goal
 
 pub unreachable-requires : goal.unreachable-requires
-unreachable-requires g c = some_at (g.B.Block.layout c.args.block.now).parts c.loop-number.number (omega arith) (sym c.in-default.ensures.value)
+unreachable-requires g c = some_at (g.B.Block.layout c.args.block.now).parts c.loop-number.number (omega arith) (sym c.in_default.ensures.value)
 
 pub encode_part-requires : goal.encode_part-requires
 encode_part-requires g c =

@@ -6,7 +6,7 @@ use Rattle.sender.proofs.Parts.{some_at, drop_step, message_below_places}
 use Rattle.sender.proofs.message_length.Goals as goal
 
 pub unreachable-requires : goal.unreachable-requires
-unreachable-requires g c = some_at (g.B.Block.layout c.args.block.now).parts c.loop-number.number (omega arith) (sym c.in-default.ensures.value)
+unreachable-requires g c = some_at (g.B.Block.layout c.args.block.now).parts c.loop-number.number (omega arith) (sym c.in_default.ensures.value)
 
 pub loop-number-preserved : goal.loop-number-preserved
 loop-number-preserved g c =

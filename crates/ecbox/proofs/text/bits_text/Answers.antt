@@ -13,8 +13,8 @@ loop-bit-preserved c =
     let i = c.loop-bit.bit-index in
     let is = c.bit_char.ensures.value in
     let small : c.bit_char.result < 128 = rw is (code_small (get_or bits i 0)) in
-    c.in-ok-push.ensures.bytes
-    ∙ ap (λ (cs : List ℕ). string_bytes c.loop-bit.text ++ cs) (c.in-ok-push.ensures.ascii small ∙ ap (λ n. n ∷ []) is)
+    c.in_ok-push.ensures.bytes
+    ∙ ap (λ (cs : List ℕ). string_bytes c.loop-bit.text ++ cs) (c.in_ok-push.ensures.ascii small ∙ ap (λ n. n ∷ []) is)
     ∙ ap (λ (cs : List ℕ). cs ++ (bit_code (get_or bits i 0) ∷ [])) c.loop-bit.invariant
     ∙ sym (map_more bit_code bits i 0 c.loop-bit-test.true)
 

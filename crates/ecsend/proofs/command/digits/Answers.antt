@@ -7,13 +7,13 @@ use Rattle.ecsend.proofs.command.digits.Goals.{then-byte-lt48-via-then-byte-lt48
 
 pub returns-then-byte-lt48 : goal.returns-then-byte-lt48
 returns-then-byte-lt48 c =
-    let bytes = c.as-bytes-bytes.result.now in
+    let bytes = c.as_bytes-bytes.result.now in
     let i = c.loop-byte.byte-index in
     record {
       value = inr (
         refl,
         λ all.
-            let here : Digit (get_or bytes i 0) = All-get_or Digit bytes i 0 c.loop-byte-test.true (subst Digits (sym c.as-bytes-bytes.ensures.value) all) in
+            let here : Digit (get_or bytes i 0) = All-get_or Digit bytes i 0 c.loop-byte-test.true (subst Digits (sym c.as_bytes-bytes.ensures.value) all) in
             elim c.then-byte-lt48.branch [
               | then-byte-lt48-via-then-byte-lt48 w ↦ omega (arith, w.if-byte-lt48.true, here.0)
               | then-byte-lt48-via-else-byte-lt48+then-byte-gt57 w ↦ omega (arith, w.if-byte-gt57.true, here.1)
@@ -23,15 +23,15 @@ returns-then-byte-lt48 c =
 
 pub loop-byte-preserved : goal.loop-byte-preserved
 loop-byte-preserved c =
-    let bytes = c.as-bytes-bytes.result.now in
+    let bytes = c.as_bytes-bytes.result.now in
     let i = c.loop-byte.byte-index in
     let inside = c.loop-byte-test.true in
     let b = get_or bytes i 0 in (
       All-more Digit bytes i 0 inside c.loop-byte.invariant.0 (c.if-byte-lt48.false, c.if-byte-gt57.false),
-      c.in-ok-push.ensures.items ∙ ap (λ (xs : List ℕ). xs ++ ((b - 48) ∷ [])) c.loop-byte.invariant.1 ∙ sym (map_more (λ x. x - 48) bytes i 0 inside),
+      c.in_ok-push.ensures.items ∙ ap (λ (xs : List ℕ). xs ++ ((b - 48) ∷ [])) c.loop-byte.invariant.1 ∙ sym (map_more (λ x. x - 48) bytes i 0 inside),
     )
 
 pub returns : goal.returns
 returns c =
-    let all = take_all c.loop-byte.byte-index c.as-bytes-bytes.result.now c.loop-byte-test.false ∙ c.as-bytes-bytes.ensures.value in
+    let all = take_all c.loop-byte.byte-index c.as_bytes-bytes.result.now c.loop-byte-test.false ∙ c.as_bytes-bytes.ensures.value in
     record { value = (subst Digits all c.loop-byte.invariant.0, c.loop-byte.invariant.1 ∙ ap digit_values all) }

@@ -9,7 +9,7 @@ returns-then-eq c = record {
     refl,
     λ n written.
         let digit = digit_at c.args.text.now 0 written.0.1 written.0.0 in
-        let bytes = c.as-bytes.ensures.value in
+        let bytes = c.as_bytes.ensures.value in
         let first = c.first.ensures.item in
         let sign = c.if-eq.ensures in
         grind arith,

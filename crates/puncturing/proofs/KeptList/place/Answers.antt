@@ -13,10 +13,10 @@ returns-in-Mcs c =
           ∙ sym (kept_at c.args.self j c.requires.few);
     }
 
-pub returns-in-default : goal.returns-in-default
-returns-in-default c =
+pub returns-in_default : goal.returns-in_default
+returns-in_default c =
     let j = c.args.index in
     record {
       value = c.even_place.ensures.value ∙ ap (λ (f : Figures). even_place f j) c.figures.ensures.value
-          ∙ sym (even_at c.args.self c.in-default.not-Mcs j c.requires.few);
+          ∙ sym (even_at c.args.self c.in_default.not-Mcs j c.requires.few);
     }
