@@ -1,5 +1,5 @@
 -- Every message has one word with right parity.
-use Rattle.std.proofs.Common.{◌≡◌, ℕ, zero, suc, ◌+◌, ◌-◌, ◌*◌, ◌^◌, ◌<◌, List, ◌++◌, length, drop, replicate, fold, sym, ap, ◌∙◌, subst, arith, length-append, length-drop, take-append-drop}
+use Rattle.std.proofs.Common.{◌≡◌, ℕ, zero, suc, ◌+◌, ◌*◌, ◌^◌, ◌<◌, List, ◌++◌, length, drop, replicate, fold, sym, ap, ◌∙◌, subst, arith, length-append, length-drop, take-append-drop}
 use lib.Bits.{bit_xor, xor_shifted, xor_assoc, xor_comm, xor_zero_l, xor_lt}
 use lib.ListN.{length-replicate}
 use Rattle.std.proofs.ByRecursion.{All-append, All-drop}

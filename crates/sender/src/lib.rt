@@ -20,9 +20,9 @@ use placement::{BURST, Place, Placement};
 // Writes the bursts of a message, burst 0 first, 116 bytes each. It checks the message's length, the output's, then the
 // message's bits.
 pub fn send<B: Block>(block: &B, message: &[u8], out: &mut [u8]) -> Result<(), ParityFault>
-    ensures refusal { result ≡ writing_check message.now (message_length (layout block.now)) (length out.old) (116 * (layout block.now).bursts) }
+    ensures refusal { result ≡ writing_check message.now (message_length (B.layout block.now)) (length out.old) (116 * (B.layout block.now).bursts) }
     ensures same { OnErr result (out.new ≡ out.old) }
-    ensures after { OnOk result (Sent (layout block.now) message.now out.new) }
+    ensures after { OnOk result (Sent (B.layout block.now) message.now out.new) }
 {
     check_writing(
         message,
@@ -36,7 +36,7 @@ pub fn send<B: Block>(block: &B, message: &[u8], out: &mut [u8]) -> Result<(), P
 
 // The length of a block's message: the messages of all its parts.
 fn message_length<B: Block>(block: &B) -> usize
-    ensures value { result ≡ message_length (layout block.now) }
+    ensures value { result ≡ message_length (B.layout block.now) }
 {
     let mut length = 0;
     for number in 0..block.part_count() {
@@ -50,9 +50,9 @@ fn message_length<B: Block>(block: &B) -> usize
 
 // Writes the bursts of a message.
 fn write_bursts<B: Block>(block: &B, message: &[u8], out: &mut [u8])
-    requires message { BlockMessage (layout block.now) message.now }
-    requires room { length out.old ≡ 116 * (layout block.now).bursts }
-    ensures after { Sent (layout block.now) message.now out.new }
+    requires message { BlockMessage (B.layout block.now) message.now }
+    requires room { length out.old ≡ 116 * (B.layout block.now).bursts }
+    ensures after { Sent (B.layout block.now) message.now out.new }
 {
     let pile = block.pile();
     let mut buffer = [0; MOST_CODED];
@@ -63,9 +63,9 @@ fn write_bursts<B: Block>(block: &B, message: &[u8], out: &mut [u8])
 
 // Writes the coded bits of a message's parts, each next part's after the last one's.
 fn encode_parts<B: Block>(block: &B, message: &[u8], coded: &mut [u8])
-    requires message { BlockMessage (layout block.now) message.now }
-    requires room { length coded.old ≡ total places (layout block.now).parts }
-    ensures after { Encoded (layout block.now).parts message.now coded.new }
+    requires message { BlockMessage (B.layout block.now) message.now }
+    requires room { length coded.old ≡ total places (B.layout block.now).parts }
+    ensures after { Encoded (B.layout block.now).parts message.now coded.new }
 {
     let mut from = 0;
     let mut start = 0;
@@ -82,9 +82,9 @@ fn encode_parts<B: Block>(block: &B, message: &[u8], coded: &mut [u8])
 // Writes the coded bits of the part whose message begins at `from`; they begin at `start`.
 fn encode_part<C: CodePart>(part: &C, message: &[u8], from: usize, coded: &mut [u8], start: usize)
     requires binary { Bits message.now }
-    requires whole { from + (rule part.now).message ≤ length message.now }
-    requires room { start + places (rule part.now) ≤ length coded.old }
-    ensures after { PartWritten (rule part.now) message.now from start coded.old coded.new }
+    requires whole { from + (C.rule part.now).message ≤ length message.now }
+    requires room { start + places (C.rule part.now) ≤ length coded.old }
+    ensures after { PartWritten (C.rule part.now) message.now from start coded.old coded.new }
 {
     let until = from + part.message_length();
     let end = start + part.coded_count();
@@ -93,9 +93,9 @@ fn encode_part<C: CodePart>(part: &C, message: &[u8], from: usize, coded: &mut [
 
 // Writes the coded bits of one part's message.
 fn encode_message<C: CodePart>(part: &C, message: &[u8], coded: &mut [u8])
-    requires message { Message (rule part.now) message.now }
-    requires room { length coded.old ≡ places (rule part.now) }
-    ensures after { PartEncoded (rule part.now) message.now coded.new }
+    requires message { Message (C.rule part.now) message.now }
+    requires room { length coded.old ≡ places (C.rule part.now) }
+    ensures after { PartEncoded (C.rule part.now) message.now coded.new }
 {
     let mut buffer = [0; LONGEST_WORD];
     let word = &mut buffer[0..part.word_length()];
@@ -109,8 +109,8 @@ fn encode_message<C: CodePart>(part: &C, message: &[u8], coded: &mut [u8])
 
 // Writes what a pile shows of coded bits.
 fn lay<P: Placement>(pile: &P, coded: &[u8], out: &mut [u8])
-    requires whole { length coded.now ≡ (placing pile.now).coded }
-    ensures after { out.new ≡ shown_all (placing pile.now).shows (length out.old) coded.now }
+    requires whole { length coded.now ≡ (P.placing pile.now).coded }
+    ensures after { out.new ≡ shown_all (P.placing pile.now).shows (length out.old) coded.now }
 {
     for (place, bit) in out.iter_mut().enumerate() {
         *bit = bit_at(pile, coded, place);
@@ -119,8 +119,8 @@ fn lay<P: Placement>(pile: &P, coded: &[u8], out: &mut [u8])
 
 // The bit at a place of a pile.
 fn bit_at<P: Placement>(pile: &P, coded: &[u8], place: usize) -> u8
-    requires whole { length coded.now ≡ (placing pile.now).coded }
-    ensures value { result ≡ shown coded.now ((placing pile.now).shows place) }
+    requires whole { length coded.now ≡ (P.placing pile.now).coded }
+    ensures value { result ≡ shown coded.now ((P.placing pile.now).shows place) }
 {
     match pile.at(place) {
         Place::Coded(place) => coded[place],

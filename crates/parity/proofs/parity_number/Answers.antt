@@ -1,4 +1,4 @@
-use Rattle.std.proofs.Common.{◌≡◌, ℕ, ◌+◌, ◌-◌, List, [], ◌∷◌, ◌++◌, replicate, ap, ◌∙◌, subst, append_assoc, arith}
+use Rattle.std.proofs.Common.{◌≡◌, ℕ, ◌+◌, List, [], ◌∷◌, ◌++◌, replicate, ap, ◌∙◌, subst, append_assoc, arith}
 use lib.Bits.{bit_xor, xor_comm, xor_lt}
 use Rattle.std.proofs.lemmas.List.{replicate_more}
 use Rattle.parity.specs.Division.{Leaves, all_ones}

@@ -23,7 +23,7 @@ encode_part-requires g c =
 pub loop-number-preserved : goal.loop-number-preserved
 loop-number-preserved g c =
     let parts = (g.B.Block.layout c.args.block.now).parts in
-    let rule = g.Part.CodePart.rule c.in-Some.part in
+    let rule = g.B.Part.CodePart.rule c.in-Some.part in
     let p = c.loop-number.number in
     let from = c.loop-number.from in
     let old = c.loop-number.coded in

@@ -11,11 +11,11 @@ unreachable-requires g c = some_at (g.B.Block.layout c.args.block.now).parts c.l
 pub loop-number-preserved : goal.loop-number-preserved
 loop-number-preserved g c =
     let parts = (g.B.Block.layout c.args.block.now).parts in
-    let rule = g.Part.CodePart.rule c.in-Some.part in
+    let rule = g.B.Part.CodePart.rule c.in-Some.part in
     let first = drop_step parts c.loop-number.number rule (sym c.in-Some.ensures.value) in
     let messages = ap (total (λ p. p.message)) first in
     let coded = ap (total places) first in
-    let below = message_below_places rule (g.met.Part.CodePart.limits c.in-Some.part) in (
+    let below = message_below_places rule (g.met.B.Part.CodePart.limits c.in-Some.part) in (
       omega (arith, messages, c.loop-number.invariant.0, c.message_length-length.ensures.value),
       omega (arith, coded, below, c.loop-number.invariant.1, c.message_length-length.ensures.value),
     )
