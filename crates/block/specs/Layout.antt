@@ -1,7 +1,7 @@
 -- What a block is: its code parts in order, and a pile of placements that takes their coded places to bursts.
 use Rattle.std.specs.Prelude.{◌≡◌, ℕ, ◌+◌, ◌≤◌, List, [], ◌∷◌}
-use Rattle.std.specs.List.{AllByRecursion as All}
-use Rattle.code.specs.Part.{places, Limits as Part-limits}
+use Rattle.std.specs.List.{AllByRecursion}
+use Rattle.code.specs.Part.{places, Limits as PartLimits}
 use Rattle.code.specs.declared.part.Rule.{Rule}
 use Rattle.placement.specs.Placing.{Placing, Sound}
 
@@ -24,7 +24,7 @@ message_length l = total (λ p. p.message) l.parts
 
 -- the limits of every block
 pub record Limits (l : Layout) : Type 0 where
-  pub parts_limits : All Part-limits l.parts
+  pub parts_limits : AllByRecursion PartLimits l.parts
   pub pile_sound : Sound l.pile
   pub bursts_least : 1 ≤ l.bursts
   pub bursts_most : l.bursts ≤ 4

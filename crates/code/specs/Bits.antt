@@ -1,11 +1,11 @@
 -- Strings of bits, and which byte is refused where a string of bits is asked. A bit in a buffer is a byte, 0 or 1.
 use Rattle.std.specs.Prelude.{◌≡◌, ℕ, ◌+◌, ◌%◌, ◌<◌, ◌≤◌, Bool, cond, List, [], ◌∷◌, length, Ok, Err, Result, ◌==◌, nat_lt, slice_index}
-use Rattle.std.specs.List.{AllByRecursion as All}
+use Rattle.std.specs.List.{AllByRecursion}
 use Rattle.fault.specs.declared.ParityFault.{ParityFault}
 use Rattle.fault.specs.declared.ParityFault.TheVariants.{Length, NotABit, WrongParity}
 
 abbrev pub Bits : List ℕ → Type 0
-Bits = All (λ b. b < 2)
+Bits = AllByRecursion (λ b. b < 2)
 
 -- a string of n bits
 pub record BitString (n : ℕ) (string : List ℕ) : Type 0 where

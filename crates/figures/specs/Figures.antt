@@ -1,6 +1,6 @@
 -- The worked figures: one list, and what it means that they hold.
 use Rattle.std.specs.Prelude.{◌≡◌, ℕ, List, [], ◌∷◌, ◌++◌, map, length, replicate}
-use Rattle.std.specs.List.{range_with_len, AllByRecursion as All}
+use Rattle.std.specs.List.{range_with_len, AllByRecursion}
 use Rattle.code.specs.Convolution.{coded}
 use Rattle.code.specs.Parts.{rule_of}
 use Rattle.code.specs.declared.part.Ending.{Ending}
@@ -52,4 +52,4 @@ figures =
     ∷ []
 
 abbrev pub FiguresHold : Type 0
-FiguresHold = All Holds figures
+FiguresHold = AllByRecursion Holds figures

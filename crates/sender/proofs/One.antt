@@ -1,12 +1,12 @@
 -- Every message of a block is sent in one way.
 use Rattle.std.proofs.Common.{◌≡◌, ℕ, ◌*◌, ◌<◌, ◌≤◌, List, [], ◌∷◌, length, get_or, take, drop, refl, ap, ◌∙◌, ap₂, ⊎_elim, arith}
-use Rattle.std.specs.List.{range_with_len, AllByRecursion as All}
+use Rattle.std.specs.List.{range_with_len, AllByRecursion}
 use Rattle.std.proofs.ByRecursion.{All-append, All-drop, All-get_or, All-map, All-take}
 use Rattle.std.proofs.lemmas.List.{get_or_past, length-drop, length-take-le}
 use Rattle.std.proofs.lemmas.Bool.{cases_lt}
 use Rattle.code.specs.Bits.{Bits, BitString}
 use Rattle.code.specs.Convolution.{coded, coded_word}
-use Rattle.code.specs.Part.{places, Limits as Part-limits}
+use Rattle.code.specs.Part.{places, Limits as PartLimits}
 use Rattle.code.specs.declared.part.Rule.{Rule}
 use Rattle.parity.proofs.Words.{some_word}
 use Rattle.placement.specs.Placing.{Sound}
@@ -16,7 +16,7 @@ use Rattle.block.specs.Layout.{Layout, Limits, total}
 use Rattle.sender.specs.Sent.{BlockMessage, Words, coded_words, shown, shown_all, OneSending}
 
 -- there are words of a message
-some_words : (rs : List Rule) → All Part-limits rs → (m : List ℕ) → BitString (total (λ p. p.message) rs) m → (ws : List (List ℕ)) × Words rs m ws
+some_words : (rs : List Rule) → AllByRecursion PartLimits rs → (m : List ℕ) → BitString (total (λ p. p.message) rs) m → (ws : List (List ℕ)) × Words rs m ws
 some_words [] limits m whole = ([], tt)
 some_words (r ∷ rs) limits m whole =
     let n = r.message in
@@ -33,7 +33,7 @@ same_words (r ∷ rs) m [] vs a b = absurd a
 same_words (r ∷ rs) m (w ∷ ws) [] a b = absurd b
 same_words (r ∷ rs) m (w ∷ ws) (v ∷ vs) a b = ap₂ ◌∷◌ (a.0.only v b.0.is) (same_words rs (drop r.message m) ws vs a.1 b.1)
 
-everywhere : (P : ℕ → Type 0) → ((k : ℕ) → P k) → (ks : List ℕ) → All P ks
+everywhere : (P : ℕ → Type 0) → ((k : ℕ) → P k) → (ks : List ℕ) → AllByRecursion P ks
 everywhere P h [] = tt
 everywhere P h (k ∷ ks) = (h k, everywhere P h ks)
 

@@ -1,7 +1,7 @@
 -- A test of figures that computes, and what it means: one proof for the whole list.
 use Rattle.std.proofs.Common.{◌≡◌, ℕ, ◌+◌, ◌-◌, ◌*◌, Bool, true, false, ◌&&◌, eqb, List, [], ◌∷◌, ◌++◌, map, length, get_or, take, is_ok, IfOk, Ok, Err, fold, Result, refl, ap, subst, ap₂}
 use Rattle.std.specs.Char.{char_set_contains}
-use Rattle.std.specs.List.{range_with_len, AllByRecursion as All}
+use Rattle.std.specs.List.{range_with_len, AllByRecursion}
 use Rattle.std.proofs.lemmas.List.{take_at}
 use Rattle.std.proofs.lemmas.Bool.{and_parts, eqb-true, false≢true}
 use Rattle.fault.specs.declared.Fault.{Fault}
@@ -107,7 +107,7 @@ all_test [] = true
 all_test (f ∷ fs) = holds_test f && all_test fs
 
 -- a list whose test passes holds, figure by figure
-pub tested_all : (fs : List Figure) → all_test fs ≡ true → All Holds fs
+pub tested_all : (fs : List Figure) → all_test fs ≡ true → AllByRecursion Holds fs
 tested_all [] t = tt
 tested_all (f ∷ fs) t =
     let parts = and_parts (holds_test f) (all_test fs) t in (tested_figure f parts.0, tested_all fs parts.1)

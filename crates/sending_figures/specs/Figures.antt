@@ -1,9 +1,9 @@
 -- The worked figures: one list, and what it means that they hold.
 use Rattle.std.specs.Prelude.{◌≡◌, ℕ, ◌+◌, ◌-◌, ◌*◌, true, List, [], ◌∷◌, ◌++◌, map, length, take, replicate, Ok, slice_index}
 use Rattle.std.specs.Char.{char_set_contains}
-use Rattle.std.specs.List.{range_with_len, AllByRecursion as All}
+use Rattle.std.specs.List.{range_with_len, AllByRecursion}
 use Rattle.block.specs.declared.blocks.EcBlock.{EcBlock}
-use Rattle.block.specs.declared.blocks.EcBlock.TheVariants.{PacchDown as pacch-down-block, PacchUp as pacch-up-block, PacchUp48 as pacch-up-48-block, Mcs as mcs-block}
+use Rattle.block.specs.declared.blocks.EcBlock.TheVariants.{PacchDown as pacch_down_block, PacchUp as pacch_up_block, PacchUp48 as pacch_up_48_block, Mcs as mcs_block}
 use Rattle.code.specs.Convolution.{coded}
 use Rattle.code.specs.Parts.{rule_of}
 use Rattle.code.specs.declared.part.Ending.{Ending}
@@ -16,7 +16,7 @@ use Rattle.placement.specs.Placing.{over}
 use Rattle.placement.specs.declared.placement.Place.TheVariants.{Coded}
 use Rattle.puncturing.specs.Lists.{dropped_of, kept_of}
 use Rattle.puncturing.specs.declared.KeptList.{KeptList}
-use Rattle.puncturing.specs.declared.KeptList.TheVariants.{CcchDown as ccch-down-kept, Mcs}
+use Rattle.puncturing.specs.declared.KeptList.TheVariants.{CcchDown as ccch_down_kept, Mcs}
 use Rattle.timeslot.specs.Timeslot.{timeslot}
 
 pub data Figure : Type 0 where
@@ -83,24 +83,24 @@ figures =
     ∷ header_bits (replicate 16 0 ++ replicate 8 1)
     (0 ∷ 0 ∷ 0 ∷ 1 ∷ 1 ∷ 0 ∷ 0 ∷ 1 ∷ 0 ∷ 1 ∷ 1 ∷ 1 ∷ 0 ∷ 0 ∷ replicate 18 0
     ++ 1 ∷ 1 ∷ 1 ∷ 0 ∷ 0 ∷ 1 ∷ 1 ∷ 0 ∷ 1 ∷ 0 ∷ 0 ∷ 0 ∷ 1 ∷ 1 ∷ 1 ∷ 1 ∷ [])
-    ∷ keeps_first ccch-down-kept (2 ∷ 5 ∷ 8 ∷ 10 ∷ [])
-    ∷ keeps_last ccch-down-kept 317
-    ∷ drops ccch-down-kept 316
+    ∷ keeps_first ccch_down_kept (2 ∷ 5 ∷ 8 ∷ 10 ∷ [])
+    ∷ keeps_last ccch_down_kept 317
+    ∷ drops ccch_down_kept 316
     ∷ keeps Mcs (data_place 73)
     ∷ drops Mcs (data_place 52)
     ∷ goes_to 4 0 75
     ∷ goes_to 423 3 9
     ∷ shown_at 4 0 85
     ∷ shown_at 423 3 9
-    ∷ slot_of pacch-down-block 8 5 4 2 6 1
-    ∷ slot_of pacch-down-block 8 5 2 2 10 1
-    ∷ slot_of pacch-up-block 8 5 4 2 6 1
-    ∷ slot_of pacch-up-block 8 5 2 2 10 1
-    ∷ slot_of pacch-up-48-block 48 5 4 2 6 1
-    ∷ slot_of pacch-up-48-block 48 5 2 2 10 1
-    ∷ slot_of mcs-block 48 5 4 2 6 1
-    ∷ slot_of mcs-block 48 5 2 2 10 1
+    ∷ slot_of pacch_down_block 8 5 4 2 6 1
+    ∷ slot_of pacch_down_block 8 5 2 2 10 1
+    ∷ slot_of pacch_up_block 8 5 4 2 6 1
+    ∷ slot_of pacch_up_block 8 5 2 2 10 1
+    ∷ slot_of pacch_up_48_block 48 5 4 2 6 1
+    ∷ slot_of pacch_up_48_block 48 5 2 2 10 1
+    ∷ slot_of mcs_block 48 5 4 2 6 1
+    ∷ slot_of mcs_block 48 5 2 2 10 1
     ∷ []
 
 abbrev pub FiguresHold : Type 0
-FiguresHold = All Holds figures
+FiguresHold = AllByRecursion Holds figures
