@@ -1,11 +1,12 @@
 """Compares ec.py with the figures of docs/FORMATS.md and docs/REFUSALS.md, and console.py with the texts of
-docs/CONSOLE.md. Figures and texts are typed from there. Then it makes the stored session again and compares it."""
+docs/CONSOLE-SENDING.md. Figures and texts are typed from there. Then it makes the stored session again and compares it."""
 
 import os
 import random
 import sys
 
 sys.dont_write_bytecode = True
+sys.path.append(os.path.join(os.path.dirname(os.path.abspath(__file__)), "..", "reference"))
 
 import console  # noqa: E402
 import ec  # noqa: E402

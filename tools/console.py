@@ -1,9 +1,11 @@
-"""Answers the commands of docs/CONSOLE.md: one a line on standard input, answered on standard output."""
+"""Answers the commands of docs/CONSOLE-SENDING.md: one a line on standard input, answered on standard output."""
 
+import os
 import re
 import sys
 
 sys.dont_write_bytecode = True
+sys.path.append(os.path.join(os.path.dirname(os.path.abspath(__file__)), "..", "reference"))
 
 import ec  # noqa: E402
 

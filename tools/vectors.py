@@ -4,10 +4,12 @@ With --random N SEED it prints N random lines instead, right and broken ones, fo
 """
 
 import itertools
+import os
 import random
 import sys
 
 sys.dont_write_bytecode = True
+sys.path.append(os.path.join(os.path.dirname(os.path.abspath(__file__)), "..", "reference"))
 
 import ec  # noqa: E402
 

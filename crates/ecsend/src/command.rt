@@ -99,6 +99,10 @@ pub fn block_named(name: &str) -> Option<EcBlock>
     }
 }
 
+const FIRST_DIGIT: u8 = b'0';
+
+const LAST_DIGIT: u8 = b'9';
+
 // The digits of a text as numbers.
 pub fn digits(heap: Global, text: &str) -> Result<Vec<u8>, Misread>
     ensures value { MatchResult result (λ v. Digits text.now × (v.items ≡ digit_values text.now)) (λ e. (e ≡ NoMemory) ⊎ ((e ≡ NotBits) × (Digits text.now → ⊥))) }
@@ -106,10 +110,10 @@ pub fn digits(heap: Global, text: &str) -> Result<Vec<u8>, Misread>
     let mut values = Vec::new(heap);
     let bytes = text.as_bytes();
     for byte in bytes {
-        if *byte < b'0' || *byte > b'9' {
+        if *byte < FIRST_DIGIT || *byte > LAST_DIGIT {
             return Err(Misread::NotBits);
         }
-        values.push(*byte - b'0')?;
+        values.push(*byte - FIRST_DIGIT)?;
     }
     Ok(values)
 }
