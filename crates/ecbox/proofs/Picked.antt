@@ -1,4 +1,4 @@
--- Entries of a list, picked by `nth`.
+-- Entries of a list, picked by `slice_get`.
 use Rattle.std.proofs.Common.{◌≡◌, ℕ, zero, suc, List, [], ◌∷◌, map, get_or, Some, None, refl, ap, arith}
 use Rattle.std.specs.List.{slice_get}
 

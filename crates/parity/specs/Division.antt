@@ -1,4 +1,4 @@
--- Division of polynomials over GF(2). A number stands for a polynomial: its bit i is the coefficient of D^i, and bitXor is the sum.
+-- Division of polynomials over GF(2). A number stands for a polynomial: its bit i is the coefficient of D^i, and bit_xor is the sum.
 use Rattle.std.specs.Prelude.{◌≡◌, ℕ, ◌+◌, ◌-◌, ◌*◌, ◌^◌, ◌<◌, List, fold, bit_xor}
 use Rattle.code.specs.Bits.{Bits}
 use Rattle.code.specs.Part.{Sound}
