@@ -46,6 +46,12 @@ PARTS = (
     ("MCS-1'/48", 1, 178, 190, "zero tail", 588, 372, 4, 48, 12, 216),
 )
 
+POLYNOMIALS = {
+    18: "D^18 + D^17 + D^14 + D^13 + D^11 + D^10 + D^8 + D^7 + D^6 + D^3 + D^2 + 1",
+    8: "D^8 + D^6 + D^3 + 1",
+    12: "D^12 + D^11 + D^10 + D^8 + D^5 + D^4 + 1",
+}
+
 # Right parity of the zero message, and of zeros with a last bit 1, by degree.
 PARITY = {
     18: ("111111111111111111", "011001001000110010"),
@@ -66,6 +72,8 @@ def check_parts():
         same(title + "bursts", block.bursts, bursts)
         same(title + "most repeats", block.most_repeats, repeats)
         same(title + "degree", part.degree(), degree)
+        powers = " + ".join("D^%d" % power if power else "1" for power in part.polynomial)
+        same(title + "polynomial", powers, POLYNOMIALS[degree])
         same(title + "dropped", len(part.dropped), dropped)
         same(title + "dropped and kept", dropped + kept, coded)
         same(title + "dropped places are coded places", part.dropped <= set(range(coded)), True)
@@ -115,6 +123,14 @@ def check_code(title, part):
     same(title + "linear", both, [a ^ b for a, b in zip(ec.code_word(part, one), ec.code_word(part, two))])
 
 
+def check_one_bit():
+    """A single 1 in a word of zeros spells the three sums."""
+    for ending, word, coded in (("zero tail", "1000000", "111 011 110 110 001 100 111" + " 000" * 6),
+                                ("tail-biting", "0000001", "011 110 110 001 100 111 111")):
+        part = ec.Part(6, 7, ending, (1, 0), set())
+        same(ending + " one bit", ec.code_word(part, bits(word)), bits(coded.replace(" ", "")))
+
+
 def check_puncturing():
     ends = (
         ("CCCH/D", [2, 5, 8, 10, 13, 16], [312, 315, 317], [0, 1, 3, 4, 6, 7], [313, 314, 316]),
@@ -147,6 +163,8 @@ def check_puncturing():
     same("lookalike pc(14)", kept[14], 40)
     same("lookalike drops 317 and keeps 316", (317 in lookalike, 316 in kept), (True, True))
     coded = ec.code_word(header, ec.write_word(header, [0] * 16))
+    same("coded bits of the zero header", coded,
+         bits("001010100010011111000000000000000000000000000000111100010100101001110110"))
     row = [coded[place] for place in header.kept()]
     same("kept bits of the zero header", row, bits("000110010111000000000000000000001110011010001111"))
     same("the same in pieces", row, bits("00011001011100" + 18 * "0" + "1110011010001111"))
@@ -226,6 +244,21 @@ def check_placements():
     same("PACCH/U/48 end of each burst", [top[116 * b + 106:116 * b + 116] for b in range(4)], [[zero] * 10] * 4)
 
 
+# Burst 0 of the zero message.
+ZERO_BURSTS = (
+    ("CCCH/D", "10011100000000000000000000000000000000000000000000000000000"
+               "000000000000000000000000000000000000010101011000011111110"),
+    ("PACCH/D", "10010100000000000000000000000000000000000000000000000000000"
+                "000000000000000000000000000000000000101010100111100011110"),
+    ("PACCH/U", "11101011000000000000000000000000000000000000000000000000000"
+                "000000000000000000000000000000011011000101101101110110110"),
+    ("PACCH/U/48", "11101011000000000000000000000000000000000000000000000000000"
+                   "000000000000000000000110101101011011101101101100000000000"),
+    ("MCS-1'/48", "00000000000000000000001000000000000000001000000000000000000"
+                  "000000100000000100000000001000000000000000000000100000000"),
+)
+
+
 def check_sending():
     sizes = (("CCCH/D", 88, 232), ("PACCH/D", 80, 464), ("PACCH/U", 64, 464), ("PACCH/U/48", 56, 464),
              ("MCS-1'/48", 194, 464))
@@ -252,12 +285,27 @@ def check_sending():
             refused("code length", lambda: ec.code_word(part, word[1:], 0), 1, "parity", 1)
             refused("code room", lambda: ec.code_word(part, [2] + word[1:], 0), 1, "parity", 2)
             refused("code bits", lambda: ec.code_word(part, [2] + word[1:]), 2, "parity", 0)
+    for name, burst in ZERO_BURSTS:
+        zeros = [0] * sum(part.message for part in B[name].parts)
+        same(name + " burst 0 of zeros", ec.send(B[name], zeros)[0], bits(burst))
     refused("first data byte", lambda: ec.send(MCS, [0] * 16 + [2] + [0] * 177), 2, "parity", 16)
+
+
+def check_undone(block, total, p, seen):
+    """The inverse call answers for what the forward call gives, is undone by it, and is refused for all else."""
+    for order in range(block.bursts * (total + 1)):
+        for slot in range(1 if block.name == "CCCH/D" else p):
+            what = "%s M %d p %d B' %d pn %d" % (block.name, total, p, order, slot)
+            if (order, slot) in seen:
+                m, b = ec.from_timeslot(block, total, p, order, slot)
+                same(what, ec.to_timeslot(block, total, m, p, b), (order, slot))
+            else:
+                refused(what, lambda: ec.from_timeslot(block, total, p, order, slot), 9, "timing", 2)
 
 
 def check_timeslots():
     permitted = (
-        ("CCCH/D", (1, 8, 16, 32), (0, 1, 2, 3, 4, 99)),
+        ("CCCH/D", (1, 8, 16, 32), (0, 1, 2, 3, 4, 99, 2 ** 64 - 1)),
         ("PACCH/D", (1, 4, 8, 16), (2, 4)),
         ("PACCH/U", (1, 4, 8, 16), (2, 4)),
         ("PACCH/U/48", (48,), (2, 4)),
@@ -280,6 +328,7 @@ def check_timeslots():
                         same("%s M %d p %d m %d B %d" % (name, total, p, m, b),
                              ec.from_timeslot(block, total, p, order, slot), (m, b))
                 same("%s M %d p %d one to one" % (name, total, p), len(seen), total * block.bursts)
+                check_undone(block, total, p, seen)
                 refused(name + " m", lambda: ec.to_timeslot(block, total, total, 9, 9), 9, "timing", 2)
                 refused(name + " m found", lambda: ec.from_timeslot(block, total, p, 4 * total, 0), 9, "timing", 2)
                 refused(name + " large", lambda: ec.from_timeslot(block, total, p, 2 ** 64 - 1, 0), 9, "timing", 2)
@@ -300,12 +349,32 @@ def check_timeslots():
     same("CCCH/D m 5 B 1", ec.to_timeslot(B["CCCH/D"], 8, 5, 0, 1), (11, 0))
 
 
-check_parts()
-check_puncturing()
-check_placements()
-check_sending()
-check_timeslots()
-if differ:
-    print("%d figures differ" % differ)
-print("%d figures agree" % agree)
-sys.exit(1 if differ else 0)
+def check_texts():
+    """The lines of docs/REFUSALS.md."""
+    for line, refusal in (
+        ("refused 1 parity 2", ec.Refusal(1, "parity", 2)),
+        ("refused 2 parity 17", ec.Refusal(2, "parity", 17)),
+        ("refused 3 placement 2", ec.Refusal(3, "placement", 2)),
+        ("refused 6 parity 1 340", ec.Refusal(6, "parity", 1, 340)),
+        ("refused 9 timing 1", ec.Refusal(9, "timing", 1)),
+    ):
+        same(line, str(refusal), line)
+
+
+def report():
+    """How many figures agree; ends the program, with status 1 if one differs."""
+    if differ:
+        print("%d figures differ" % differ)
+    print("%d figures agree" % agree)
+    sys.exit(1 if differ else 0)
+
+
+if __name__ == "__main__":
+    check_parts()
+    check_one_bit()
+    check_puncturing()
+    check_placements()
+    check_sending()
+    check_timeslots()
+    check_texts()
+    report()

@@ -40,13 +40,13 @@ tested_word rule limits m p t =
       right = subst (Leaves rule.generator w) (eqb-true _ _ a.1) (leaves_computed rule.generator limits.generator w word.bits);
     }
 
-abbrev same_bits : List ℕ → List ℕ → Bool
+abbrev pub same_bits : List ℕ → List ℕ → Bool
 same_bits [] [] = true
 same_bits [] (y ∷ ys) = false
 same_bits (x ∷ xs) [] = false
 same_bits (x ∷ xs) (y ∷ ys) = eqb x y && same_bits xs ys
 
-tested_same : (xs ys : List ℕ) → same_bits xs ys ≡ true → xs ≡ ys
+pub tested_same : (xs ys : List ℕ) → same_bits xs ys ≡ true → xs ≡ ys
 tested_same [] [] t = refl
 tested_same [] (y ∷ ys) t = absurd (false≢true t)
 tested_same (x ∷ xs) [] t = absurd (false≢true t)

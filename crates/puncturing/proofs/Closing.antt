@@ -1,7 +1,8 @@
 -- The closed forms give the kept lists: tested entry by entry, for each list.
 use Rattle.std.proofs.Common.{◌≡◌, ℕ, ◌<◌, Bool, true, eqb, length, get_or, refl, arith}
 use Rattle.std.proofs.lemmas.Bool.{eqb-true}
-use Rattle.puncturing.specs.Kept.{kept, evenly}
+use Rattle.placement.specs.Kept.{kept}
+use Rattle.puncturing.specs.Kept.{evenly}
 use Rattle.puncturing.specs.Lists.{figures_of, dropped_of, kept_of}
 use Rattle.puncturing.specs.Closed.{even_place, place_of}
 use Rattle.puncturing.specs.declared.KeptList.{KeptList}

@@ -1,15 +1,16 @@
 -- A kept list is what is not dropped, in order: for any number of places and any rule.
 use Rattle.std.specs.Prelude.{◌≡◌, ℕ, zero, suc, ◌+◌, ◌<◌, ◌≤◌, Bool, true, false, cond, not, List, [], ◌∷◌, length, filter, slice_index, refl}
 use Rattle.std.proofs.Common.{⊎_elim, sym, subst, arith}
-use Rattle.std.specs.List.{range_with_len, ContainsAt as Has}
+use Rattle.std.specs.List.{range_with_len, ContainsAt}
 use Rattle.std.proofs.ByRecursion.{has_append_right, has_get_or}
 use Rattle.std.proofs.lemmas.Bool.{cases_eq, both_ways, not-true, not_from_false}
-use Rattle.puncturing.specs.Kept.{kept, Keeps}
+use Rattle.placement.specs.Kept.{kept}
+use Rattle.puncturing.specs.Kept.{Keeps}
 
 -- of the n numbers from a on, xs are those that pass
 record Passing (p : ℕ → Bool) (a n : ℕ) (xs : List ℕ) : Type 0 where
   sent : (j : ℕ) → j < length xs → (a ≤ slice_index xs j) × (slice_index xs j < a + n) × (p (slice_index xs j) ≡ true)
-  missing : (c : ℕ) → a ≤ c → c < a + n → p c ≡ true → Has xs c
+  missing : (c : ℕ) → a ≤ c → c < a + n → p c ≡ true → ContainsAt xs c
   rising : (i j : ℕ) → i < j → j < length xs → slice_index xs i < slice_index xs j
 
 module _ (p : ℕ → Bool) where
@@ -18,7 +19,7 @@ module _ (p : ℕ → Bool) where
     sent = sent;
     missing = λ c low high goes.
         ⊎_elim
-        (λ (e : c ≡ a). subst (Has (a ∷ xs)) (sym e) (has_get_or (a ∷ xs) 0 0 (omega arith)))
+        (λ (e : c ≡ a). subst (ContainsAt (a ∷ xs)) (sym e) (has_get_or (a ∷ xs) 0 0 (omega arith)))
         (λ (e : c ≡ a → ⊥). has_append_right (a ∷ []) xs c (rest.missing c (omega arith) (omega arith) goes))
         (cases_eq c a);
     rising = rising;

@@ -1,16 +1,13 @@
--- Puncturing: the coded places that are sent are all that are not dropped, in order.
-use Rattle.std.specs.Prelude.{◌≡◌, ℕ, zero, suc, ◌*◌, ◌/◌, ◌%◌, ◌<◌, Bool, false, not, ◌&&◌, ◌||◌, List, [], ◌∷◌, length, filter, ◌==◌, slice_index}
+-- Puncturing: which coded places are dropped, and what it means that the rest is kept.
+use Rattle.std.specs.Prelude.{◌≡◌, ℕ, zero, suc, ◌*◌, ◌/◌, ◌%◌, ◌<◌, Bool, false, not, ◌&&◌, ◌||◌, List, [], ◌∷◌, length, ◌==◌, slice_index}
 use Rattle.std.specs.Char.{char_set_contains}
-use Rattle.std.specs.List.{range_with_len, ContainsAt as Has}
+use Rattle.std.specs.List.{ContainsAt}
 
--- the places below n that are not dropped, in order
-unfoldable pub kept : ℕ → (ℕ → Bool) → List ℕ
-kept n dropped = filter (λ c. not (dropped c)) (range_with_len 0 n)
-
--- what that means: nothing kept is dropped, nothing else is missing, the order is kept
+-- of the places below n, the list has all that are not dropped: nothing kept is dropped, nothing else is missing, the
+-- order is kept
 pub record Keeps (n : ℕ) (dropped : ℕ → Bool) (list : List ℕ) : Type 0 where
   pub sent : (j : ℕ) → j < length list → (slice_index list j < n) × (dropped (slice_index list j) ≡ false)
-  pub missing : (c : ℕ) → c < n → dropped c ≡ false → Has list c
+  pub missing : (c : ℕ) → c < n → dropped c ≡ false → ContainsAt list c
   pub rising : (i j : ℕ) → i < j → j < length list → slice_index list i < slice_index list j
 
 -- c is floor(i * top / bottom) for some i below the count

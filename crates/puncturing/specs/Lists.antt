@@ -3,7 +3,8 @@ use Rattle.std.specs.Prelude.{◌≡◌, ℕ, ◌+◌, ◌-◌, Bool, cond, List
 use Rattle.placement.specs.Placing.{Placing}
 use Rattle.placement.specs.Layers.{up_to}
 use Rattle.placement.specs.declared.placement.Place.TheVariants.{Coded}
-use Rattle.puncturing.specs.Kept.{kept, Keeps, evenly, header_dropped, data_dropped}
+use Rattle.placement.specs.Kept.{kept}
+use Rattle.puncturing.specs.Kept.{Keeps, evenly, header_dropped, data_dropped}
 use Rattle.puncturing.specs.declared.Figures.{Figures}
 use Rattle.puncturing.specs.declared.KeptList.{KeptList}
 use Rattle.puncturing.specs.declared.KeptList.TheVariants.{CcchDown, PacchDown, PacchUp, PacchUp48, Mcs}

@@ -1,4 +1,4 @@
-// The worked figures, proved of the definitions that the code is proved against.
+// The worked figures of puncturing, placements and timeslots, proved of the definitions that the code is proved against.
 #![tactic(auto)]
 
 ghost use Rattle.sending_figures.specs.Figures.{FiguresHold};

@@ -1,5 +1,5 @@
 use Rattle.std.proofs.Common.{refl}
-use Rattle.puncturing.specs.Kept.{kept}
+use Rattle.placement.specs.Kept.{kept}
 use Rattle.puncturing.proofs.Closing.{kept_long}
 use Rattle.puncturing.specs.Keeping.{keeping}
 use Rattle.puncturing.proofs.kept_is_what_is_not_dropped.Goals as goal

@@ -1,6 +1,7 @@
 use Rattle.std.proofs.Common.{refl}
 use Rattle.placement.specs.Layers.{moved}
-use Rattle.puncturing.specs.Kept.{kept, evenly}
+use Rattle.placement.specs.Kept.{kept}
+use Rattle.puncturing.specs.Kept.{evenly}
 use Rattle.sending_figures.specs.Figures.{figures}
 use Rattle.sending_figures.proofs.Computed.{tested_all}
 use Rattle.sending_figures.proofs.figures_hold.Goals as goal
