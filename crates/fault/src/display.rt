@@ -1,6 +1,6 @@
 // What an operator reads of a fault.
 ghost use Rattle.std.specs.Prelude.{Some};
-ghost use Rattle.fault.specs.Shown.{layer_text, detail_text};
+ghost use Rattle.fault.specs.Shown.{layer_text, detail_text, value_text, parity_text, placement_text, receiver_text, timing_text, sentence};
 
 use crate::{
     Detail, Fault, Layer, ParityFault, PlacementFault, ReceiverFault, TimingFault, ValueFault,
@@ -11,13 +11,13 @@ impl fmt::Display for Layer {
     ghost output = { λ l. Some (layer_text l) };
 
     fn fmt<W: fmt::Write>(&self, f: &mut fmt::Formatter<W>) -> fmt::Result {
-        match self {
-            Layer::Value => write!(f, "value"),
-            Layer::Parity => write!(f, "parity"),
-            Layer::Placement => write!(f, "placement"),
-            Layer::Receiver => write!(f, "receiver"),
-            Layer::Timing => write!(f, "timing"),
-        }
+        f.write_str(match self {
+            Layer::Value => "value",
+            Layer::Parity => "parity",
+            Layer::Placement => "placement",
+            Layer::Receiver => "receiver",
+            Layer::Timing => "timing",
+        })
     }
 }
 
@@ -33,6 +33,8 @@ impl fmt::Display for Detail {
 }
 
 impl fmt::Display for ValueFault {
+    ghost output = { λ e. Some (value_text e) };
+
     fn fmt<W: fmt::Write>(&self, f: &mut fmt::Formatter<W>) -> fmt::Result {
         match self {
             ValueFault::Length { buffer } => write!(f, "buffer {buffer} has the wrong length"),
@@ -47,6 +49,8 @@ impl fmt::Display for ValueFault {
 }
 
 impl fmt::Display for ParityFault {
+    ghost output = { λ e. Some (parity_text e) };
+
     fn fmt<W: fmt::Write>(&self, f: &mut fmt::Formatter<W>) -> fmt::Result {
         match self {
             ParityFault::Length { buffer } => write!(f, "buffer {buffer} has the wrong length"),
@@ -62,6 +66,8 @@ impl fmt::Display for ParityFault {
 }
 
 impl fmt::Display for PlacementFault {
+    ghost output = { λ e. Some (placement_text e) };
+
     fn fmt<W: fmt::Write>(&self, f: &mut fmt::Formatter<W>) -> fmt::Result {
         match self {
             PlacementFault::NoSuchBurst { burst } => write!(f, "the block has no burst {burst}"),
@@ -70,6 +76,8 @@ impl fmt::Display for PlacementFault {
 }
 
 impl fmt::Display for ReceiverFault {
+    ghost output = { λ e. Some (receiver_text e) };
+
     fn fmt<W: fmt::Write>(&self, f: &mut fmt::Formatter<W>) -> fmt::Result {
         match self {
             ReceiverFault::Length { buffer } => write!(f, "buffer {buffer} has the wrong length"),
@@ -87,19 +95,22 @@ impl fmt::Display for ReceiverFault {
 }
 
 impl fmt::Display for TimingFault {
+    ghost output = { λ e. Some (timing_text e) };
+
     fn fmt<W: fmt::Write>(&self, f: &mut fmt::Formatter<W>) -> fmt::Result {
-        match self {
-            TimingFault::Total => write!(f, "the block is not sent that many times"),
-            TimingFault::Repeat => write!(f, "there is no repeat of that number"),
-            TimingFault::Slots => write!(
-                f,
+        f.write_str(match self {
+            TimingFault::Total => "the block is not sent that many times",
+            TimingFault::Repeat => "there is no repeat of that number",
+            TimingFault::Slots => {
                 "the block does not use that many slots, or has no slot of that number"
-            ),
-        }
+            }
+        })
     }
 }
 
 impl fmt::Display for Fault {
+    ghost output = { λ e. Some (sentence e) };
+
     fn fmt<W: fmt::Write>(&self, f: &mut fmt::Formatter<W>) -> fmt::Result {
         let number = self.number();
         let layer = self.layer();

@@ -125,9 +125,9 @@ impl Fault {
         ensures value { result ≡ number_of self }
     {
         match self {
-            Fault::Value(ValueFault::Length { .. }) => 1,
-            Fault::Parity(ParityFault::Length { .. }) => 1,
-            Fault::Receiver(ReceiverFault::Length { .. }) => 1,
+            Fault::Value(ValueFault::Length { .. })
+            | Fault::Parity(ParityFault::Length { .. })
+            | Fault::Receiver(ReceiverFault::Length { .. }) => 1,
             Fault::Parity(ParityFault::NotABit { .. }) => 2,
             Fault::Placement(PlacementFault::NoSuchBurst { .. }) => 3,
             Fault::Receiver(ReceiverFault::NoMoreRepeats { .. }) => 4,
@@ -155,41 +155,27 @@ impl Fault {
         ensures value { result ≡ detail_of self }
     {
         match self {
-            Fault::Value(fault) => value_detail(fault),
-            Fault::Parity(ParityFault::Length { buffer }) => Detail::Number(usize::from(buffer)),
+            Fault::Value(ValueFault::Length { buffer })
+            | Fault::Parity(ParityFault::Length { buffer })
+            | Fault::Receiver(ReceiverFault::Length { buffer }) => {
+                Detail::Number(usize::from(buffer))
+            }
+            Fault::Value(ValueFault::Weight) => Detail::Number(1),
+            Fault::Value(ValueFault::Noise) => Detail::Number(2),
+            Fault::Value(ValueFault::Quotient) => Detail::Number(3),
             Fault::Parity(ParityFault::NotABit { index }) => Detail::Number(index),
             Fault::Parity(ParityFault::WrongParity { part, cost }) => Detail::PartAndCost {
                 part,
                 cost,
             },
             Fault::Placement(PlacementFault::NoSuchBurst { burst }) => Detail::Number(burst),
-            Fault::Receiver(fault) => receiver_detail(fault),
+            Fault::Receiver(ReceiverFault::NoMoreRepeats { burst }) => Detail::Number(burst),
+            Fault::Receiver(ReceiverFault::NothingHeard) => Detail::Number(0),
+            Fault::Receiver(ReceiverFault::NoSuchPart { part }) => Detail::Number(part),
             Fault::Timing(TimingFault::Total) => Detail::Number(1),
             Fault::Timing(TimingFault::Repeat) => Detail::Number(2),
             Fault::Timing(TimingFault::Slots) => Detail::Number(3),
         }
-    }
-}
-
-fn value_detail(fault: ValueFault) -> Detail
-    ensures value { result ≡ detail_of (Value fault) }
-{
-    match fault {
-        ValueFault::Length { buffer } => Detail::Number(usize::from(buffer)),
-        ValueFault::Weight => Detail::Number(1),
-        ValueFault::Noise => Detail::Number(2),
-        ValueFault::Quotient => Detail::Number(3),
-    }
-}
-
-fn receiver_detail(fault: ReceiverFault) -> Detail
-    ensures value { result ≡ detail_of (Receiver fault) }
-{
-    match fault {
-        ReceiverFault::Length { buffer } => Detail::Number(usize::from(buffer)),
-        ReceiverFault::NoMoreRepeats { burst } => Detail::Number(burst),
-        ReceiverFault::NothingHeard => Detail::Number(0),
-        ReceiverFault::NoSuchPart { part } => Detail::Number(part),
     }
 }
 
