@@ -1,6 +1,8 @@
 -- A test of figures that computes, and what it means: one proof for the whole list.
-use Rattle.std.proofs.Common.{◌≡◌, ℕ, Bool, true, false, ◌&&◌, eqb, List, [], ◌∷◌, ◌++◌, map, length, is_ok, IfOk, Ok, Err, fold, refl, subst, ap₂}
-use Rattle.std.specs.List.{range_with_len, AllByRecursion}
+use Rattle.std.proofs.Common.{◌≡◌, ℕ, Bool, true, ◌&&◌, eqb, nat_eq, List, [], ◌∷◌, ◌++◌, map, length, is_ok, IfOk, Ok, Err, fold, refl, sym, subst}
+use Rattle.std.specs.List.{range_with_len, AllByRecursion, list_all}
+use lib.Pointwise.{pointwise}
+use Rattle.std.specs.Cmp.Lexicographic.{same_text}
 use Rattle.std.proofs.lemmas.List.{take_at}
 use Rattle.std.proofs.lemmas.Bool.{and_parts, eqb-true, false≢true}
 use Rattle.code.specs.Bits.{Checked, string_check}
@@ -40,35 +42,18 @@ tested_word rule limits m p t =
       right = subst (Leaves rule.generator w) (eqb-true _ _ a.1) (leaves_computed rule.generator limits.generator w word.bits);
     }
 
-abbrev pub same_bits : List ℕ → List ℕ → Bool
-same_bits [] [] = true
-same_bits [] (y ∷ ys) = false
-same_bits (x ∷ xs) [] = false
-same_bits (x ∷ xs) (y ∷ ys) = eqb x y && same_bits xs ys
-
-pub tested_same : (xs ys : List ℕ) → same_bits xs ys ≡ true → xs ≡ ys
-tested_same [] [] t = refl
-tested_same [] (y ∷ ys) t = absurd (false≢true t)
-tested_same (x ∷ xs) [] t = absurd (false≢true t)
-tested_same (x ∷ xs) (y ∷ ys) t =
-    let parts = and_parts (eqb x y) (same_bits xs ys) t in ap₂ ◌∷◌ (eqb-true x y parts.0) (tested_same xs ys parts.1)
-
 abbrev pub holds_test : Figure → Bool
 holds_test (parity_of part message parity) = word_test (rule_of part) message parity
-holds_test (coded_bits ending word bits) = same_bits (map (coded ending word) (range_with_len 0 (length bits))) bits
-holds_test (header_bits word bits) = same_bits (map (coded (rule_of McsHeader).ending word) header_kept) bits
+holds_test (coded_bits ending word bits) = pointwise nat_eq (map (coded ending word) (range_with_len 0 (length bits))) bits
+holds_test (header_bits word bits) = pointwise nat_eq (map (coded (rule_of McsHeader).ending word) header_kept) bits
 
-tested_figure : (f : Figure) → holds_test f ≡ true → Holds f
+pub tested_figure : (f : Figure) → holds_test f ≡ true → Holds f
 tested_figure (parity_of part message parity) t = tested_word (rule_of part) (table_limits part) message parity t
-tested_figure (coded_bits ending word bits) t = tested_same (map (coded ending word) (range_with_len 0 (length bits))) bits t
-tested_figure (header_bits word bits) t = tested_same (map (coded (rule_of McsHeader).ending word) header_kept) bits t
+tested_figure (coded_bits ending word bits) t = same_text _ _ (sym t)
+tested_figure (header_bits word bits) t = same_text _ _ (sym t)
 
-abbrev pub all_test : List Figure → Bool
-all_test [] = true
-all_test (f ∷ fs) = holds_test f && all_test fs
-
--- a list whose test passes holds, figure by figure
-pub tested_all : (fs : List Figure) → all_test fs ≡ true → AllByRecursion Holds fs
-tested_all [] t = tt
-tested_all (f ∷ fs) t =
-    let parts = and_parts (holds_test f) (all_test fs) t in (tested_figure f parts.0, tested_all fs parts.1)
+-- where a test tells that P holds, P holds of every entry of a list that passes
+pub tested_all : {X : Type 0} (test : X → Bool) (P : X → Type 0) → ((x : X) → test x ≡ true → P x) → (xs : List X) → list_all test xs ≡ true → AllByRecursion P xs
+tested_all test P told [] t = tt
+tested_all test P told (x ∷ xs) t =
+    let parts = and_parts (test x) (list_all test xs) t in (told x parts.0, tested_all test P told xs parts.1)

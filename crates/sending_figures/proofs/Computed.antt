@@ -1,7 +1,8 @@
 -- A test of figures that computes, and what it means: one proof for the whole list.
-use Rattle.std.proofs.Common.{◌≡◌, ℕ, ◌+◌, ◌-◌, ◌*◌, Bool, true, false, ◌&&◌, eqb, List, [], ◌∷◌, map, length, get_or, take, Ok, Err, Result, ap, ap₂}
+use Rattle.std.proofs.Common.{◌≡◌, ℕ, ◌+◌, ◌-◌, ◌*◌, Bool, true, false, ◌&&◌, eqb, map, length, get_or, take, Ok, Err, Result, sym, ap, ap₂, nat_eq}
 use Rattle.std.specs.Char.{char_set_contains}
-use Rattle.std.specs.List.{AllByRecursion}
+use Rattle.std.specs.Cmp.Lexicographic.{same_text}
+use lib.Pointwise.{pointwise}
 use Rattle.std.proofs.lemmas.Bool.{and_parts, eqb-true, false≢true}
 use Rattle.fault.specs.declared.Fault.{Fault}
 use Rattle.code.specs.Convolution.{coded}
@@ -14,7 +15,6 @@ use Rattle.placement.specs.declared.placement.Place.TheVariants.{Coded, Fixed}
 use Rattle.puncturing.specs.Lists.{dropped_of, kept_of}
 use Rattle.puncturing.specs.declared.KeptList.TheVariants.{Mcs}
 use Rattle.timeslot.specs.Timeslot.{timeslot}
-use Rattle.figures.proofs.Computed.{same_bits, tested_same}
 use Rattle.sending_figures.specs.Figures.{Figure, header_bits, keeps_first, keeps_last, keeps, drops, goes_to, shown_at, slot_of, Holds}
 
 abbrev same_place : Place → ℕ → Bool
@@ -35,8 +35,8 @@ tested_pair (Ok (x, y)) a b t =
 tested_pair (Err f) a b t = absurd (false≢true t)
 
 abbrev pub holds_test : Figure → Bool
-holds_test (header_bits word bits) = same_bits (map (coded (rule_of McsHeader).ending word) (take (length bits) (kept_of Mcs))) bits
-holds_test (keeps_first l places) = same_bits (take (length places) (kept_of l)) places
+holds_test (header_bits word bits) = pointwise nat_eq (map (coded (rule_of McsHeader).ending word) (take (length bits) (kept_of Mcs))) bits
+holds_test (keeps_first l places) = pointwise nat_eq (take (length places) (kept_of l)) places
 holds_test (keeps_last l place) = eqb (get_or (kept_of l) (length (kept_of l) - 1) 0) place
 holds_test (keeps l place) = char_set_contains (kept_of l) place
 holds_test (drops l place) = dropped_of l place
@@ -44,22 +44,12 @@ holds_test (goes_to entry group column) = eqb (spot entry) (106 * group + column
 holds_test (shown_at entry burst place) = same_place ((over split_by_ten interleaved).shows (116 * burst + place)) entry
 holds_test (slot_of block total m p b b' pn) = same_pair (timeslot block total m p b) b' pn
 
-tested_figure : (f : Figure) → holds_test f ≡ true → Holds f
-tested_figure (header_bits word bits) t = tested_same (map (coded (rule_of McsHeader).ending word) (take (length bits) (kept_of Mcs))) bits t
-tested_figure (keeps_first l places) t = tested_same (take (length places) (kept_of l)) places t
+pub tested_figure : (f : Figure) → holds_test f ≡ true → Holds f
+tested_figure (header_bits word bits) t = same_text _ _ (sym t)
+tested_figure (keeps_first l places) t = same_text _ _ (sym t)
 tested_figure (keeps_last l place) t = eqb-true _ _ t
 tested_figure (keeps l place) t = t
 tested_figure (drops l place) t = t
 tested_figure (goes_to entry group column) t = eqb-true _ _ t
 tested_figure (shown_at entry burst place) t = tested_place ((over split_by_ten interleaved).shows (116 * burst + place)) entry t
 tested_figure (slot_of block total m p b b' pn) t = tested_pair (timeslot block total m p b) b' pn t
-
-abbrev pub all_test : List Figure → Bool
-all_test [] = true
-all_test (f ∷ fs) = holds_test f && all_test fs
-
--- a list whose test passes holds, figure by figure
-pub tested_all : (fs : List Figure) → all_test fs ≡ true → AllByRecursion Holds fs
-tested_all [] t = tt
-tested_all (f ∷ fs) t =
-    let parts = and_parts (holds_test f) (all_test fs) t in (tested_figure f parts.0, tested_all fs parts.1)
