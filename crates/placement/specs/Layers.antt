@@ -1,5 +1,5 @@
 -- The layers: which entry below, or which fixed bit, each of their outer places shows.
-use Rattle.std.specs.Prelude.{◌≡◌, ℕ, zero, suc, ◌+◌, ◌-◌, ◌*◌, ◌/◌, ◌%◌, ◌<◌, cond, List, [], ◌∷◌, ◌==◌, nat_lt, slice_index}
+use Rattle.std.specs.Prelude.{◌≡◌, ℕ, zero, suc, ◌+◌, ◌-◌, ◌*◌, ◌/◌, ◌%◌, ◌<◌, cond, List, [], ◌∷◌, ◌==◌, nat_lt, slice_index_or}
 use Rattle.std.specs.Char.{char_set_contains}
 use Rattle.placement.specs.Placing.{Placing}
 use Rattle.placement.specs.declared.placement.Place.{Place}
@@ -18,18 +18,15 @@ abbrev pub straight : ℕ → Placing
 straight bursts = record { coded = 116; outer = 116 * bursts; shows = by_burst bursts (λ burst j. Coded j) }
 
 -- the two flags of each of four bursts
-abbrev pub first_flags : List ℕ
-first_flags = 0 ∷ 0 ∷ 0 ∷ 1 ∷ []
-
-abbrev pub second_flags : List ℕ
-second_flags = 0 ∷ 1 ∷ 1 ∷ 0 ∷ []
+abbrev pub burst_flags : List (ℕ × ℕ)
+burst_flags = (0, 0) ∷ (0, 1) ∷ (0, 1) ∷ (1, 0) ∷ []
 
 -- 114 entries around the two flags in the middle of each burst
 abbrev pub around_two : ℕ → ℕ → Place
 around_two burst j =
     cond (nat_lt j 57) (Coded j)
-    (cond (j == 57) (Fixed (slice_index first_flags burst))
-    (cond (j == 58) (Fixed (slice_index second_flags burst))
+    (cond (j == 57) (Fixed (slice_index_or burst_flags burst (0, 0)).0)
+    (cond (j == 58) (Fixed (slice_index_or burst_flags burst (0, 0)).1)
     (Coded (j - 2))))
 
 abbrev pub split_by_two : Placing

@@ -4,7 +4,7 @@ ghost use Rattle.placement.specs.Layers.{spot, moved, interleaved, Permutation};
 ghost use Rattle.placement.specs.declared.placement.Place.TheVariants.{Coded};
 ghost use Rattle.placement.specs.Sounds.{interleaved_sound};
 
-use crate::placement::{Place, Placement};
+use crate::placement::{Place, Placement, up_to};
 
 // Spreads 424 entries over four groups of 106 places.
 #[derive(Clone, Copy)]
@@ -27,11 +27,7 @@ impl Placement for Interleaver {
         ensures value { result ≡ moved spot 424 place }
         ensures rule { (k : ℕ) → k < 424 → spot k ≡ place → result ≡ Coded k }
     {
-        if place < 424 {
-            Place::Coded(entry_at(place))
-        } else {
-            Place::Fixed(0)
-        }
+        up_to(424, place, |place| Place::Coded(entry_at(place)))
     }
 }
 
@@ -40,12 +36,11 @@ pub fn interleaver_is_a_permutation()
     ensures law { Permutation }
 {}
 
-// The entry that goes to a place, and the only one.
+// The entry that goes to a place.
 fn entry_at(place: usize) -> usize
     requires few { place < 424 }
     ensures bound { result < 424 }
     ensures value { spot result ≡ place }
-    ensures only { (k : ℕ) → k < 424 → spot k ≡ place → k ≡ result }
 {
     let group = place / 106;
     let column = place % 106;

@@ -2,7 +2,7 @@
 ghost use Rattle.placement.specs.Layers.{straight, split_by_two, split_by_ten, flagged};
 ghost use Rattle.placement.specs.Sounds.{straight_sound, split_by_two_sound, split_by_ten_sound, flagged_sound};
 
-use crate::placement::{BURST, Place, Placement};
+use crate::placement::{BURST, Place, Placement, by_burst, up_to};
 
 // Every burst shows the entries from the first on.
 #[derive(Clone, Copy)]
@@ -24,11 +24,7 @@ impl Placement for Straight {
     }
 
     fn at(&self, place: usize) -> Place {
-        if place < self.outer_count() {
-            Place::Coded(place % BURST)
-        } else {
-            Place::Fixed(0)
-        }
+        by_burst(self.bursts, place, |_, j| Place::Coded(j))
     }
 }
 
@@ -37,9 +33,7 @@ impl Placement for Straight {
 pub struct SplitByTwo;
 
 // The flags at places 57 and 58 of each burst.
-const FIRST_FLAGS: [u8; 4] = [0, 0, 0, 1];
-
-const SECOND_FLAGS: [u8; 4] = [0, 1, 1, 0];
+const FLAGS: [(u8, u8); 4] = [(0, 0), (0, 1), (0, 1), (1, 0)];
 
 impl Placement for SplitByTwo {
     ghost placing = { λ _. split_by_two };
@@ -55,16 +49,12 @@ impl Placement for SplitByTwo {
     }
 
     fn at(&self, place: usize) -> Place {
-        if place >= self.outer_count() {
-            return Place::Fixed(0);
-        }
-        let burst = place / BURST;
-        match place % BURST {
-            j @ 0..=56 => Place::Coded(j),
-            57 => Place::Fixed(FIRST_FLAGS[burst]),
-            58 => Place::Fixed(SECOND_FLAGS[burst]),
-            j => Place::Coded(j - 2),
-        }
+        by_burst(4, place, |burst, j| match j {
+            0..=56 => Place::Coded(j),
+            57 => Place::Fixed(FLAGS[burst].0),
+            58 => Place::Fixed(FLAGS[burst].1),
+            _ => Place::Coded(j - 2),
+        })
     }
 }
 
@@ -86,15 +76,11 @@ impl Placement for SplitByTen {
     }
 
     fn at(&self, place: usize) -> Place {
-        if place >= self.outer_count() {
-            return Place::Fixed(0);
-        }
-        let first = 106 * (place / BURST);
-        match place % BURST {
-            j @ 0..=52 => Place::Coded(first + j),
+        by_burst(4, place, |burst, j| match j {
+            0..=52 => Place::Coded(106 * burst + j),
             53..=62 => Place::Fixed(0),
-            j => Place::Coded(first + j - 10),
-        }
+            _ => Place::Coded(106 * burst + j - 10),
+        })
     }
 }
 
@@ -116,14 +102,13 @@ impl Placement for Flags {
     }
 
     fn at(&self, place: usize) -> Place {
-        match place {
+        up_to(424, place, |place| match place {
             25 | 82 | 139 | 401 => Place::Fixed(0),
             0..=24 => Place::Coded(place),
             26..=81 => Place::Coded(place - 1),
             83..=138 => Place::Coded(place - 2),
             140..=400 => Place::Coded(place - 3),
-            402..=423 => Place::Coded(place - 4),
-            _ => Place::Fixed(0),
-        }
+            _ => Place::Coded(place - 4),
+        })
     }
 }
