@@ -1,71 +1,46 @@
 -- A kept list is what is not dropped, in order: for any number of places and any rule.
-use Rattle.std.specs.Prelude.{◌≡◌, ℕ, zero, suc, ◌+◌, ◌<◌, ◌≤◌, Bool, true, false, cond, not, List, [], ◌∷◌, length, filter, slice_index, refl}
-use Rattle.std.proofs.Common.{⊎_elim, sym, subst, arith}
-use Rattle.std.specs.List.{range_with_len, ContainsAt}
-use Rattle.std.proofs.ByRecursion.{has_append_right, has_get_or}
-use Rattle.std.proofs.lemmas.Bool.{cases_eq, both_ways, not-true, not_from_false}
+use Rattle.std.specs.Prelude.{◌≡◌, ℕ, zero, suc, ◌+◌, ◌<◌, Bool, true, not, List, [], ◌∷◌, length, filter, slice_index, refl}
+use Rattle.std.proofs.Common.{get_or, All, Contains, arith}
+use Rattle.std.specs.List.{range_with_len}
+use Rattle.std.specs.List.Sorted.{IsStrictlyIncreasing}
+use Rattle.std.proofs.lemmas.Bool.{cond_both, not-true, not_from_false}
+use Rattle.std.proofs.lemmas.List.Elements.{All-filter, filter_passes, Contains-append_right}
+use Rattle.std.proofs.lemmas.List.FromFn.{length-range_with_len, get_or-range_with_len}
+use Rattle.std.proofs.lemmas.List.Kept.{AllPairs-from_increasing, IsStrictlyIncreasing-filter}
 use Rattle.placement.specs.Kept.{kept}
 use Rattle.puncturing.specs.Kept.{Keeps}
 
--- of the n numbers from a on, xs are those that pass
-record Passing (p : ℕ → Bool) (a n : ℕ) (xs : List ℕ) : Type 0 where
-  sent : (j : ℕ) → j < length xs → (a ≤ slice_index xs j) × (slice_index xs j < a + n) × (p (slice_index xs j) ≡ true)
-  missing : (c : ℕ) → a ≤ c → c < a + n → p c ≡ true → ContainsAt xs c
-  rising : (i j : ℕ) → i < j → j < length xs → slice_index xs i < slice_index xs j
+-- what passes stays
+stays : (p : ℕ → Bool) (xs : List ℕ) (k : ℕ) → k < length xs → p (slice_index xs k) ≡ true → Contains (filter p xs) (slice_index xs k)
+stays p [] k h passes = absurd (omega arith)
+stays p (x ∷ xs) zero h passes = rw passes (0, omega arith, refl)
+stays p (x ∷ xs) (suc k) h passes =
+    let rest = stays p xs k (omega arith) passes in
+    cond_both (p x) (x ∷ filter p xs) (filter p xs) (λ ys. Contains ys (slice_index xs k)) (λ _. Contains-append_right (x ∷ []) _ _ rest) (λ _. rest)
 
-module _ (p : ℕ → Bool) where
-  taken : (a n : ℕ) (xs : List ℕ) → p a ≡ true → Passing p (a + 1) n xs → Passing p a (suc n) (a ∷ xs)
-  taken a n xs passes rest = record {
-    sent = sent;
-    missing = λ c low high goes.
-        ⊎_elim
-        (λ (e : c ≡ a). subst (ContainsAt (a ∷ xs)) (sym e) (has_get_or (a ∷ xs) 0 0 (omega arith)))
-        (λ (e : c ≡ a → ⊥). has_append_right (a ∷ []) xs c (rest.missing c (omega arith) (omega arith) goes))
-        (cases_eq c a);
-    rising = rising;
-  }
-    where
-      sent : (j : ℕ) → j < suc (length xs) → (a ≤ slice_index (a ∷ xs) j) × (slice_index (a ∷ xs) j < a + suc n) × (p (slice_index (a ∷ xs) j) ≡ true)
-      sent zero h = (omega arith, omega arith, passes)
-      sent (suc j) h = let s = rest.sent j (omega arith) in (omega (arith, s.0), omega (arith, s.1), s.2)
+-- the numbers below n
+abbrev below : ℕ → List ℕ
+below n = range_with_len 0 n
 
-      rising : (i j : ℕ) → i < j → j < suc (length xs) → slice_index (a ∷ xs) i < slice_index (a ∷ xs) j
-      rising i zero less h = absurd (omega arith)
-      rising zero (suc j) less h = omega (arith, (rest.sent j (omega arith)).0)
-      rising (suc i) (suc j) less h = rest.rising i j (omega arith) (omega arith)
+below_at : (n c d : ℕ) → c < n → get_or (below n) c d ≡ c
+below_at n c d h = omega (arith, get_or-range_with_len 0 n c d h)
 
-  passed_over : (a n : ℕ) (xs : List ℕ) → p a ≡ false → Passing p (a + 1) n xs → Passing p a (suc n) xs
-  passed_over a n xs fails rest = record {
-    sent = λ j h. let s = rest.sent j h in (omega (arith, s.0), omega (arith, s.1), s.2);
-    missing = λ c low high goes.
-        ⊎_elim
-        (λ (e : c ≡ a). absurd (both_ways (p a) fails (subst (λ (x : ℕ). p x ≡ true) e goes)))
-        (λ (e : c ≡ a → ⊥). rest.missing c (omega arith) (omega arith) goes)
-        (cases_eq c a);
-    rising = rest.rising;
-  }
+below_low : (n : ℕ) → All (λ c. c < n) (below n)
+below_low n k d h = let l : k < n = omega (arith, length-range_with_len 0 n) in rw (below_at n k d l) l
 
-  passing : (n a : ℕ) → Passing p a n (filter p (range_with_len a n))
-  passing zero a = record {
-    sent = λ j h. absurd (omega arith);
-    missing = λ c low high goes. absurd (omega arith);
-    rising = λ i j less h. absurd (omega arith);
-  }
-  passing (suc n) a = go (p a) refl (passing n (a + 1))
-    where
-      rest : List ℕ
-      rest = filter p (range_with_len (a + 1) n)
-
-      go : (b : Bool) → p a ≡ b → Passing p (a + 1) n rest → Passing p a (suc n) (cond b (a ∷ rest) rest)
-      go true e later = taken a n rest e later
-      go false e later = passed_over a n rest e later
+below_rising : (n : ℕ) → IsStrictlyIncreasing (below n)
+below_rising n k h =
+    let l : k + 1 < n = omega (arith, length-range_with_len 0 n) in omega (arith, below_at n k 0 (omega arith), below_at n (k + 1) 0 l)
 
 pub keeping : (n : ℕ) (dropped : ℕ → Bool) → Keeps n dropped (kept n dropped)
 unfolding kept
 keeping n dropped =
-    let all = passing (λ c. not (dropped c)) n 0 in
+    let p = λ (c : ℕ). not (dropped c) in
+    let rising = AllPairs-from_increasing _ (IsStrictlyIncreasing-filter p (below n) (below_rising n)) in
     record {
-      sent = λ j h. let s = all.sent j h in (omega (arith, s.1), not-true _ s.2);
-      missing = λ c h stays. all.missing c (omega arith) (omega arith) (not_from_false _ stays);
-      rising = all.rising;
+      sent = λ j h. (All-filter p (λ c. c < n) (below n) (below_low n) j 0 h, not-true _ (filter_passes p (below n) j 0 h));
+      missing = λ c h goes.
+          let passes : p (slice_index (below n) c) ≡ true = rw (below_at n c 0 h) (not_from_false _ goes) in
+          rw (below_at n c 0 h) at (stays p (below n) c (omega (arith, length-range_with_len 0 n)) passes);
+      rising = λ i j less h. rising i j 0 less h;
     }

@@ -3,8 +3,8 @@ use Rattle.std.specs.Prelude.{◌≡◌, ℕ, ◌+◌, ◌-◌, Bool, cond, List
 use Rattle.placement.specs.Placing.{Placing}
 use Rattle.placement.specs.Layers.{up_to}
 use Rattle.placement.specs.declared.placement.Place.TheVariants.{Coded}
-use Rattle.placement.specs.Kept.{kept}
-use Rattle.puncturing.specs.Kept.{Keeps, evenly, header_dropped, data_dropped}
+use Rattle.placement.specs.Kept.{kept, header_dropped, header_kept}
+use Rattle.puncturing.specs.Kept.{Keeps, evenly, data_dropped}
 use Rattle.puncturing.specs.declared.Figures.{Figures}
 use Rattle.puncturing.specs.declared.KeptList.{KeptList}
 use Rattle.puncturing.specs.declared.KeptList.TheVariants.{CcchDown, PacchDown, PacchUp, PacchUp48, Mcs}
@@ -42,6 +42,6 @@ pub record KeptLists : Type 0 where
   -- how many places each block keeps
   pub counts : (l : KeptList) → length (kept_of l) ≡ (figures_of l).kept
   -- the header's list, and then the data's
-  pub header_then_data : kept_of Mcs ≡ kept 72 header_dropped ++ map (λ c. 72 + c) (kept 588 data_dropped)
-  pub header_count : length (kept 72 header_dropped) ≡ 48
+  pub header_then_data : kept_of Mcs ≡ header_kept ++ map (λ c. 72 + c) (kept 588 data_dropped)
+  pub header_count : length header_kept ≡ 48
   pub data_count : length (kept 588 data_dropped) ≡ 372
