@@ -1,12 +1,15 @@
 // Puncturing: the coded places that are sent, as the bottom of a pile of placements.
 #![tactic(auto)]
 
-ghost use Rattle.std.specs.Prelude.{◌≡◌, ◌<◌, ◌≤◌, slice_index};
-ghost use Rattle.puncturing.specs.Closed.{even_place, residue_place, data_place, mcs_place};
+ghost use Rattle.std.specs.Prelude.{◌≡◌};
+ghost use Rattle.std.specs.List.{slice_get};
 ghost use Rattle.puncturing.specs.Lists.{figures_of, kept_of, listed, KeptLists};
 ghost use Rattle.puncturing.specs.Listed.{listed_sound};
 
+mod places;
+
 use placement::{Place, Placement};
+use places::{even_place, mcs_place};
 
 // The kept places of a block, in order.
 #[derive(Clone, Copy, PartialEq, Eq, Debug)]
@@ -53,12 +56,6 @@ const FIGURES: [Figures; 5] = [
     },
 ];
 
-// The data's places are kept by these residues modulo 21.
-const KEPT_RESIDUES: [u8; 13] = [0, 1, 3, 4, 6, 7, 9, 12, 13, 15, 16, 18, 19];
-
-// These are kept all the same.
-const EXCEPTIONS: [u16; 8] = [73, 136, 199, 262, 325, 388, 451, 514];
-
 // A kept list is what is not dropped, in order, and each of ours has its count.
 pub fn kept_is_what_is_not_dropped()
     ensures law { KeptLists }
@@ -71,15 +68,16 @@ impl KeptList {
         FIGURES[self as usize]
     }
 
-    // The kept place with `index` kept places before it.
-    fn place(self, index: usize) -> usize
-        requires few { index < (figures_of self).kept }
-        ensures value { result ≡ slice_index (kept_of self) index }
+    // The kept place with `index` kept places before it, if there is one.
+    #[tactic(auto, using(crate::proofs::Closing::kept_get, crate::proofs::Closing::kept_past, crate::proofs::Closing::even_at))]
+    fn place(self, index: usize) -> Option<usize>
+        ensures value { result ≡ slice_get (kept_of self) index }
     {
-        match self {
+        let figures = self.figures();
+        (index < usize::from(figures.kept)).then(|| match self {
             KeptList::Mcs => mcs_place(index),
-            _ => even_place(self.figures(), index),
-        }
+            _ => even_place(figures, index),
+        })
     }
 }
 
@@ -97,56 +95,6 @@ impl Placement for KeptList {
     }
 
     fn at(&self, place: usize) -> Place {
-        if place < self.outer_count() {
-            Place::Coded(self.place(place))
-        } else {
-            Place::Fixed(0)
-        }
+        self.place(place).map_or(Place::Fixed(0), Place::Coded)
     }
-}
-
-// Of `kept` places spread evenly over the coded ones, the one with `index` before it.
-fn even_place(figures: Figures, index: usize) -> usize
-    requires some { 1 ≤ figures.coded }
-    requires few { index < figures.kept }
-    ensures value { result ≡ even_place figures index }
-{
-    (usize::from(figures.coded) * (index + 1) - 1) / usize::from(figures.kept)
-}
-
-// The header's kept places, then the data's.
-fn mcs_place(index: usize) -> usize
-    requires few { index < 420 }
-    ensures value { result ≡ mcs_place index }
-{
-    if index < 48 {
-        3 * (index / 2) + index % 2
-    } else {
-        72 + data_place(index - 48)
-    }
-}
-
-// The data's kept place number 46 is an exception, and so is every 40th after it, eight in all; the others are kept by
-// their residue.
-fn data_place(index: usize) -> usize
-    requires few { index < 372 }
-    ensures value { result ≡ data_place index }
-{
-    if index < 46 {
-        residue_place(index)
-    } else if index >= 366 {
-        residue_place(index - 8)
-    } else if (index - 46) % 40 == 0 {
-        usize::from(EXCEPTIONS[(index - 46) / 40])
-    } else {
-        residue_place(index - 1 - (index - 46) / 40)
-    }
-}
-
-// Of the places that are kept by their residue, the one with `index` before it.
-fn residue_place(index: usize) -> usize
-    requires few { index < 372 }
-    ensures value { result ≡ residue_place index }
-{
-    21 * (index / 13) + usize::from(KEPT_RESIDUES[index % 13])
 }
