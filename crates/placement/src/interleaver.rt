@@ -23,6 +23,7 @@ impl Placement for Interleaver {
         424
     }
 
+    #[tactic(auto, using(crate::proofs::Spots::shown_there, crate::proofs::Spots::nothing_past))]
     fn at(&self, place: usize) -> Place
         ensures value { result ≡ moved spot 424 place }
         ensures rule { (k : ℕ) → k < 424 → spot k ≡ place → result ≡ Coded k }

@@ -55,12 +55,8 @@ pub(crate) fn by_burst<F: FnOnce(usize, usize) -> Place>(
     ensures within { place < 116 * bursts → F.post shows (place / 116) (place % 116) result }
     ensures past { 116 * bursts ≤ place → result ≡ Fixed 0 }
 {
-    let outer = BURST * usize::from(bursts);
-    up_to(
-        outer,
-        place,
-        |place|
-            requires { F.pre shows (place / 116) (place % 116) }
-        { shows(place / BURST, place % BURST) },
-    )
+    let in_burst = |place: usize|
+        requires { F.pre shows (place / 116) (place % 116) }
+    { shows(place / BURST, place % BURST) };
+    up_to(BURST * usize::from(bursts), place, in_burst)
 }

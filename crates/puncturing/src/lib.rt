@@ -90,6 +90,7 @@ impl Placement for KeptList {
         usize::from(self.figures().coded)
     }
 
+    #[tactic(auto, using(crate::proofs::Closing::kept_long))]
     fn outer_count(&self) -> usize {
         usize::from(self.figures().kept)
     }
