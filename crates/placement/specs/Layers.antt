@@ -1,6 +1,7 @@
 -- The layers: which entry below, or which fixed bit, each of their outer places shows.
 use Rattle.std.specs.Prelude.{◌≡◌, ℕ, zero, suc, ◌+◌, ◌-◌, ◌*◌, ◌/◌, ◌%◌, ◌<◌, cond, List, [], ◌∷◌, ◌==◌, nat_lt, slice_index_or}
 use Rattle.std.specs.Char.{char_set_contains}
+use Rattle.std.specs.List.{count_by}
 use Rattle.placement.specs.Placing.{Placing}
 use Rattle.placement.specs.declared.placement.Place.{Place}
 use Rattle.placement.specs.declared.placement.Place.TheVariants.{Coded, Fixed}
@@ -48,8 +49,7 @@ flags = 25 ∷ 82 ∷ 139 ∷ 401 ∷ []
 
 -- how many of a list lie before k
 abbrev pub before : ℕ → List ℕ → ℕ
-before k [] = 0
-before k (x ∷ xs) = cond (nat_lt x k) (1 + before k xs) (before k xs)
+before k = count_by (λ x. nat_lt x k)
 
 -- fixed 0 at the flags, the entries in order around them
 abbrev pub around_flags : ℕ → Place
