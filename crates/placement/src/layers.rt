@@ -105,7 +105,7 @@ impl Placement for Flags {
     }
 
     fn at(&self, place: usize) -> Place {
-        up_to(424, place, around_flags)
+        up_to(self.outer_count(), place, around_flags)
     }
 }
 
