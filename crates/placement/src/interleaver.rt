@@ -28,7 +28,11 @@ impl Placement for Interleaver {
         ensures value { result ≡ moved spot 424 place }
         ensures rule { (k : ℕ) → k < 424 → spot k ≡ place → result ≡ Coded k }
     {
-        up_to(self.outer_count(), place, |place| Place::Coded(entry_at(place)))
+        up_to(
+            self.outer_count(),
+            place,
+            |place| Place::Coded(entry_at(place)),
+        )
     }
 }
 
