@@ -28,11 +28,8 @@ impl Placement for Interleaver {
         ensures value { result ≡ moved spot 424 place }
         ensures rule { (k : ℕ) → k < 424 → spot k ≡ place → result ≡ Coded k }
     {
-        up_to(
-            self.outer_count(),
-            place,
-            |place| Place::Coded(entry_at(place)),
-        )
+        let shows = |place| Place::Coded(entry_at(place));
+        up_to(self.outer_count(), place, shows)
     }
 }
 

@@ -4,7 +4,7 @@ ghost use Rattle.std.specs.List.{slice_get};
 ghost use Rattle.placement.specs.Kept.{header_kept};
 
 // The coded place of the header that is sent as bit `index`.
-#[tactic(auto, using(crate::proofs::Header::header_get, crate::proofs::Header::header_past))]
+#[tactic(auto, using(crate::proofs::Header::header_by_formula))]
 pub fn header_place(index: usize) -> Option<usize>
     ensures value { result ≡ slice_get header_kept index }
     ensures bound { (c : ℕ) → result ≡ Some c → c < 72 }

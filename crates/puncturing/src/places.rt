@@ -21,7 +21,7 @@ pub(crate) fn even_place(figures: Figures, index: usize) -> usize
 }
 
 // The header's kept places, then the data's.
-#[tactic(auto, using(placement::proofs::Header::header_get, placement::proofs::Header::header_past))]
+#[tactic(auto, using(placement::proofs::Header::header_by_formula))]
 pub(crate) fn mcs_place(index: usize) -> usize
     requires few { index < 420 }
     ensures value { result ≡ mcs_place index }
