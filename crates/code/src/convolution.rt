@@ -1,5 +1,5 @@
 // The convolutional code, for any part and both endings.
-ghost use Rattle.std.specs.Prelude.{◌≡◌, ◌<◌, length, OnErr, OnOk, slice_index};
+ghost use Rattle.std.specs.Prelude.{◌≡◌, length, OnErr, OnOk};
 ghost use Rattle.code.specs.Bits.{writing_check};
 ghost use Rattle.code.specs.Convolution.{back, coded, coded_word};
 ghost use Rattle.code.specs.Part.{places};
@@ -8,25 +8,19 @@ use crate::check::check_writing;
 use crate::part::{CodePart, Ending};
 use fault::ParityFault;
 
-// The byte at an index, and 0 past the end.
-fn bit_at(word: &[u8], index: usize) -> u8
-    ensures value { result ≡ slice_index word.now index }
-{
-    if index < word.len() { word[index] } else { 0 }
-}
-
 // The bit of the word that stands `by` before a step.
-fn bit_back(ending: Ending, word: &[u8], step: usize, by: usize) -> u16
+fn bit_back(ending: Ending, word: &[u8], step: usize, by: usize) -> u8
     ensures value { result ≡ back ending word.now step by }
-    ensures bound { result < 256 }
 {
-    if step >= by {
-        return u16::from(bit_at(word, step - by));
-    }
-    match ending {
-        Ending::TailBiting => u16::from(bit_at(word, word.len().saturating_sub(by - step))),
-        Ending::ZeroTail => 0,
-    }
+    let index = if step >= by {
+        step - by
+    } else {
+        match ending {
+            Ending::TailBiting => word.len().saturating_sub(by - step),
+            Ending::ZeroTail => return 0,
+        }
+    };
+    word.get(index).copied().unwrap_or(0)
 }
 
 // The coded bit at a place of a word.
@@ -34,17 +28,13 @@ pub fn coded_bit(ending: Ending, word: &[u8], place: usize) -> u8
     ensures value { result ≡ coded ending word.now place }
 {
     let step = place / 3;
-    let ends = bit_back(ending, word, step, 0) + bit_back(ending, word, step, 6);
-    let between = match place % 3 {
-        0 => bit_back(ending, word, step, 2)
-            + bit_back(ending, word, step, 3)
-            + bit_back(ending, word, step, 5),
-        1 => bit_back(ending, word, step, 1)
-            + bit_back(ending, word, step, 2)
-            + bit_back(ending, word, step, 3),
-        _ => bit_back(ending, word, step, 1) + bit_back(ending, word, step, 4),
+    let bit = |by| u16::from(bit_back(ending, word, step, by));
+    let sum = match place % 3 {
+        0 => bit(0) + bit(2) + bit(3) + bit(5) + bit(6),
+        1 => bit(0) + bit(1) + bit(2) + bit(3) + bit(6),
+        _ => bit(0) + bit(1) + bit(4) + bit(6),
     };
-    ((ends + between) % 2) as u8
+    (sum % 2) as u8
 }
 
 // Writes the coded bits of a word.
