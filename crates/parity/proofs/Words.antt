@@ -1,6 +1,6 @@
 -- Every message has one word with right parity.
-use Rattle.std.proofs.Common.{◌≡◌, ℕ, zero, suc, ◌+◌, ◌*◌, ◌^◌, ◌<◌, List, ◌++◌, length, drop, replicate, fold, sym, ap, ◌∙◌, subst, arith, length-append, length-drop, take-append-drop}
-use lib.Bits.{bit_xor, xor_shifted, xor_assoc, xor_comm, xor_zero_l, xor_lt}
+use Rattle.std.proofs.Common.{◌≡◌, ℕ, zero, suc, eqb, Decides, eq-eqb, eqb-true, ◌+◌, ◌*◌, ◌^◌, ◌<◌, List, ◌++◌, length, drop, replicate, fold, sym, ap, ◌∙◌, subst, arith, length-append, length-drop, take-append-drop}
+use lib.Bits.{bit_xor, xor_shifted, xor_assoc, xor_comm, xor_zero_l, xor_self, xor_lt}
 use lib.ListN.{length-replicate}
 use Rattle.std.proofs.ByRecursion.{All-append, All-drop}
 use Rattle.std.proofs.lemmas.List.{take_at}
@@ -51,18 +51,6 @@ module _ (g : Generator) (m p q : List ℕ) (bits-p : Bits p) (bits-q : Bits q) 
       read_same p q bits-p bits-q (long-p ∙ sym long-q) (xor_equal (read p) (read q) (xor_nothing s (bit_xor (read p) (read q)) differ))
 
 module _ (rule : Rule) (limits : Limits rule) (m : List ℕ) (message : Message rule m) where
-  -- parity that makes up what a message lacks is right
-  pub made_right : (p : List ℕ) → BitString rule.generator.degree p
-      → Leaves rule.generator (m ++ replicate {A = ℕ} rule.generator.degree 0) (bit_xor (all_ones rule.generator) (read p)) → RightParity rule (m ++ p)
-  made_right p parity lacks =
-      let g = rule.generator in
-      let zeros = replicate {A = ℕ} g.degree 0 in
-      let ones = all_ones g in
-      let moved = leaves_moved g m zeros p (zeros_bits g.degree) parity.bits (length-replicate {A = ℕ} g.degree 0) parity.long (bit_xor ones (read p)) lacks in
-      let left : bit_xor (bit_xor ones (read p)) (bit_xor (read zeros) (read p)) ≡ ones =
-      ap (bit_xor (bit_xor ones (read p))) (ap (λ z. bit_xor z (read p)) (read_zeros g.degree) ∙ xor_zero_l (read p)) ∙ xor_again ones (read p) in
-      subst (Leaves g (m ++ p)) left moved
-
   -- a message and right parity are the message's one word
   pub the_word : (p : List ℕ) → BitString rule.generator.degree p → RightParity rule (m ++ p) → TheWordOf rule m (m ++ p)
   the_word p parity right =
@@ -85,19 +73,39 @@ module _ (rule : Rule) (limits : Limits rule) (m : List ℕ) (message : Message 
             sym whole ∙ ap (λ (t : List ℕ). m ++ t) (sym same);
       }
 
+  -- what the register lacks once it has taken a message and zeros is the message's parity
+  pub word_made : (p : List ℕ) → BitString rule.generator.degree p
+      → read p ≡ bit_xor (fold (next rule.generator) 0 (m ++ replicate {A = ℕ} rule.generator.degree 0)) (all_ones rule.generator) → TheWordOf rule m (m ++ p)
+  word_made p parity lacks =
+      let g = rule.generator in
+      let zeros = replicate {A = ℕ} g.degree 0 in
+      let ones = all_ones g in
+      let r = fold (next g) 0 (m ++ zeros) in
+      let left = leaves_computed g limits.generator (m ++ zeros) (All-append (λ b. b < 2) m zeros message.bits (zeros_bits g.degree)) in
+      let moved = leaves_moved g m zeros p (zeros_bits g.degree) parity.bits (length-replicate {A = ℕ} g.degree 0) parity.long r left in
+      let whole : bit_xor r (bit_xor (read zeros) (read p)) ≡ ones =
+      ap (bit_xor r) (ap (λ z. bit_xor z (read p)) (read_zeros g.degree) ∙ xor_zero_l (read p) ∙ lacks ∙ xor_comm r ones) ∙ xor_comm r (bit_xor ones r) ∙ xor_again ones r in
+      the_word p parity (subst (Leaves g (m ++ p)) whole moved)
+
   -- and there is such parity
   pub some_word : (w : List ℕ) × TheWordOf rule m w
   some_word =
       let g = rule.generator in
       let d = g.degree in
-      let ones = all_ones g in
       let zeros = replicate {A = ℕ} d 0 in
       let left = leaves_computed g limits.generator (m ++ zeros) (All-append (λ b. b < 2) m zeros message.bits (zeros_bits d)) in
       let r = fold (next g) 0 (m ++ zeros) in
-      let v = bit_xor ones r in
-      let small : v < 2 ^ d = xor_lt d ones r (omega (arith, left.small)) left.small in
+      let v = bit_xor r (all_ones g) in
+      let small : v < 2 ^ d = xor_lt d r (all_ones g) left.small (omega (arith, left.small)) in
       let p = bits_of d v in
-      let back : bit_xor ones (read p) ≡ r =
-      ap (bit_xor ones) (read_back d v small ∙ xor_comm ones r) ∙ xor_comm ones (bit_xor r ones) ∙ xor_again r ones in
-      let parity : BitString d p = record { long = bits_of_long d v; bits = bits_of_bits d v } in
-      (m ++ p, the_word p parity (made_right p parity (subst (Leaves g (m ++ zeros)) (sym back) left)))
+      (m ++ p, word_made p (record { long = bits_of_long d v; bits = bits_of_bits d v }) (read_back d v small))
+
+-- the register lacks nothing just where division of what it has taken leaves ones
+pub lacks_nothing : (g : Generator) → Sound g → (bits : List ℕ) → Bits bits → Decides (eqb (bit_xor (fold (next g) 0 bits) (all_ones g)) 0) (Leaves g bits (all_ones g))
+lacks_nothing g sound bits h =
+    let r = fold (next g) 0 bits in
+    let ones = all_ones g in
+    let left = leaves_computed g sound bits h in (
+      λ none. subst (Leaves g bits) (xor_equal r ones (eqb-true _ _ none)) left,
+      λ right. eq-eqb _ _ (ap (λ n. bit_xor n ones) (one_remainder g sound bits r ones left right) ∙ xor_self ones),
+    )

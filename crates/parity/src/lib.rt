@@ -1,16 +1,17 @@
 // Parity by division of polynomials over GF(2), for any code part.
 #![tactic(auto)]
 
-ghost use Rattle.std.specs.Prelude.{◌≡◌, ℕ, ◌^◌, ◌<◌, ◌≤◌, ◌++◌, length, replicate, Decides, OnErr, OnOk, bit_xor};
+ghost use Rattle.std.specs.Prelude.{◌≡◌, ◌^◌, ◌<◌, ◌≤◌, ◌++◌, length, OnErr, OnOk};
 ghost use Rattle.code.specs.Bits.{Bits, writing_check};
-ghost use Rattle.code.specs.Part.{Message, Sound};
-ghost use Rattle.parity.specs.Division.{Leaves, all_ones, read};
-ghost use Rattle.parity.specs.Register.{next};
+ghost use Rattle.code.specs.Part.{Message};
+ghost use Rattle.parity.specs.Division.{read};
 ghost use Rattle.parity.specs.Parity.{Judged, TheWordOf};
 
+mod division;
 mod laws;
 
-use code::{CodePart, Generator, check_string, check_writing};
+use code::{CodePart, check_string, check_writing};
+use division::Register;
 use fault::ParityFault;
 pub use laws::{division_leaves_one_remainder, every_message_has_one_word};
 
@@ -43,7 +44,9 @@ pub fn protect<C: CodePart>(part: &C, message: &[u8], word: &mut [u8]) -> Result
         word.len(),
         part.word_length(),
     )?;
-    write_word(part, message, word);
+    let (front, rest) = word.split_at_mut(message.len());
+    front.copy_from_slice(message);
+    write_parity(part, message, rest);
     Ok(())
 }
 
@@ -52,7 +55,9 @@ pub fn parity_right<C: CodePart>(part: &C, word: &[u8]) -> Result<bool, ParityFa
     ensures value { Judged (C.rule part.now) word.now result }
 {
     check_string(word, part.word_length())?;
-    Ok(leaves_ones(part.generator(), word))
+    let mut register = Register::of(part);
+    register.take(word);
+    Ok(register.lacks() == 0)
 }
 
 // Writes the parity of a message.
@@ -61,18 +66,10 @@ fn write_parity<C: CodePart>(part: &C, message: &[u8], out: &mut [u8])
     requires room { length out.old ≡ (C.rule part.now).generator.degree }
     ensures after { TheWordOf (C.rule part.now) message.now (message.now ++ out.new) }
 {
-    write_number(parity_number(part.generator(), message), out);
-}
-
-// Writes a message and its parity.
-fn write_word<C: CodePart>(part: &C, message: &[u8], word: &mut [u8])
-    requires message { Message (C.rule part.now) message.now }
-    requires room { length word.old ≡ (C.rule part.now).word }
-    ensures after { TheWordOf (C.rule part.now) message.now word.new }
-{
-    let m = message.len();
-    word[0..m].copy_from_slice(message);
-    write_parity(part, message, &mut word[m..]);
+    let mut register = Register::of(part);
+    register.take(message);
+    register.take_zeros();
+    write_number(register.lacks(), out);
 }
 
 // Writes a number in bits, the highest first.
@@ -86,67 +83,6 @@ fn write_number(number: u32, out: &mut [u8])
     for (i, bit) in out.iter_mut().enumerate() {
         *bit = ((number >> (n - 1 - i)) & 1) as u8;
     }
-}
-
-// The parity of a message as a number: what it lacks before every coefficient of the remainder is 1.
-fn parity_number(generator: Generator, message: &[u8]) -> u32
-    requires sound { Sound generator }
-    requires binary { Bits message.now }
-    ensures bound { result < 2 ^ generator.degree }
-    ensures leaves { Leaves generator (message.now ++ replicate generator.degree 0) (bit_xor (all_ones generator) result) }
-{
-    let mut register = remainder(generator, message);
-    for _zero in 0..generator.degree {
-        register = step(generator, register, 0);
-    }
-    register ^ ones(generator)
-}
-
-// Whether division of the bits leaves every coefficient 1.
-fn leaves_ones(generator: Generator, bits: &[u8]) -> bool
-    requires sound { Sound generator }
-    requires binary { Bits bits.now }
-    ensures value { Decides result (Leaves generator bits.now (all_ones generator)) }
-{
-    remainder(generator, bits) == ones(generator)
-}
-
-// What division of the bits by the generator leaves, and nothing else does.
-fn remainder(generator: Generator, bits: &[u8]) -> u32
-    requires sound { Sound generator }
-    requires binary { Bits bits.now }
-    ensures value { Leaves generator bits.now result }
-    ensures only { (s : ℕ) → Leaves generator bits.now s → s ≡ result }
-{
-    let mut register = 0;
-    for bit in bits {
-        register = step(generator, register, *bit);
-    }
-    register
-}
-
-// What a division has left after one more bit.
-fn step(generator: Generator, register: u32, bit: u8) -> u32
-    requires sound { Sound generator }
-    requires small { register < 2 ^ generator.degree }
-    requires binary { bit < 2 }
-    ensures value { result ≡ next generator register bit }
-{
-    let shifted = 2 * register + u32::from(bit);
-    let leading = 1 << generator.degree;
-    if shifted < leading {
-        shifted
-    } else {
-        (shifted - leading) ^ generator.taps
-    }
-}
-
-// The polynomial with every coefficient 1.
-fn ones(generator: Generator) -> u32
-    requires sound { Sound generator }
-    ensures value { result ≡ all_ones generator }
-{
-    (1 << generator.degree) - 1
 }
 
 #[cfg(test)]

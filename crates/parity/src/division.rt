@@ -1,0 +1,75 @@
+// Division of polynomials over GF(2), bit by bit.
+ghost use Rattle.std.specs.Prelude.{◌≡◌, ◌^◌, ◌<◌, fold, replicate, bit_xor};
+ghost use Rattle.code.specs.Bits.{Bits};
+ghost use Rattle.code.specs.Part.{Sound};
+ghost use Rattle.parity.specs.Division.{all_ones};
+ghost use Rattle.parity.specs.Register.{next};
+
+use code::{CodePart, Generator};
+
+// The register of a division: the polynomial that divides, and what is left of the bits taken so far.
+#[derive(Drop)]
+pub struct Register {
+    generator: Generator,
+    left: u32,
+    ghost sound: { Sound generator },
+    ghost small: { left < 2 ^ generator.degree },
+}
+
+impl Register {
+    // The register of a part's polynomial, with no bit taken yet.
+    pub fn of<C: CodePart>(part: &C) -> Self
+        ensures divisor { result.generator ≡ (C.rule part.now).generator }
+        ensures empty { result.left ≡ 0 }
+    {
+        Register {
+            generator: part.generator(),
+            left: 0,
+        }
+    }
+
+    // Takes one more bit.
+    fn take_bit(&mut self, bit: u8)
+        requires binary { bit < 2 }
+        ensures divisor { self.new.generator ≡ self.old.generator }
+        ensures left { self.new.left ≡ next self.old.generator self.old.left bit }
+    {
+        let shifted = 2 * self.left + u32::from(bit);
+        let leading = 1 << self.generator.degree;
+        if shifted < leading {
+            self.left = shifted;
+        } else {
+            self.left = (shifted - leading) ^ self.generator.taps;
+        }
+    }
+
+    // Takes more bits.
+    pub fn take(&mut self, bits: &[u8])
+        requires binary { Bits bits.now }
+        ensures divisor { self.new.generator ≡ self.old.generator }
+        ensures left { self.new.left ≡ fold (next self.old.generator) self.old.left bits.now }
+    {
+        for bit in bits {
+            self.take_bit(*bit);
+        }
+    }
+
+    // Takes a zero for each power below the polynomial's degree.
+    pub fn take_zeros(&mut self)
+        ensures divisor { self.new.generator ≡ self.old.generator }
+        ensures left { self.new.left ≡ fold (next self.old.generator) self.old.left (replicate self.old.generator.degree 0) }
+    {
+        for _zero in 0..self.generator.degree {
+            self.take_bit(0);
+        }
+    }
+
+    // What must be added to what is left before every coefficient is 1.
+    #[tactic(auto, using(std::proofs::lemmas::Nat::xor_lt))]
+    pub fn lacks(&self) -> u32
+        ensures bound { result < 2 ^ self.now.generator.degree }
+        ensures value { result ≡ bit_xor self.now.left (all_ones self.now.generator) }
+    {
+        self.left ^ ((1 << self.generator.degree) - 1)
+    }
+}
