@@ -1,5 +1,4 @@
-use Rattle.std.proofs.Common.{◌≡◌, ◌+◌, ◌-◌, ◌*◌, ◌/◌, ◌%◌, ◌^◌, ◌<◌, [], ◌∷◌, ◌++◌, length, take, sym, ap, ◌∙◌, subst, div-one, arith, take_all}
-use native.Mathlib.Nat.{div-eq_of_lt}
+use Rattle.std.proofs.Common.{◌≡◌, ◌+◌, ◌-◌, ◌*◌, ◌/◌, ◌%◌, ◌^◌, ◌<◌, [], ◌∷◌, ◌++◌, length, take, sym, ap, ◌∙◌, subst, arith}
 use lib.Bits.{bit_and, and_mask}
 use Rattle.std.proofs.ByRecursion.{All-push}
 use Rattle.std.proofs.lemmas.List.{take_more_set}
@@ -8,13 +7,6 @@ use Rattle.code.specs.Bits.{Bits}
 use Rattle.parity.specs.Division.{read}
 use Rattle.parity.proofs.Digits.{digits_more}
 use Rattle.parity.proofs.write_number.Goals as goal
-
-pub loop-i-init : goal.loop-i-init
-loop-i-init c =
-    let n = length c.args.out.now in
-    let whole : n - 0 ≡ n = omega arith in
-    let low : c.args.number < 2 ^ (n - 0) = rw whole c.requires.fits in
-    (tt, sym (div-eq_of_lt low))
 
 pub loop-i-preserved : goal.loop-i-preserved
 loop-i-preserved c =
@@ -35,14 +27,3 @@ loop-i-preserved c =
       subst Bits (sym longer) (All-push (λ x. x < 2) (take i out) b c.loop-i.invariant.0 (omega (arith, bit))),
       ap read longer ∙ written ∙ ap (λ m. v / 2 ^ m) (sym there),
     )
-
-pub returns : goal.returns
-returns c =
-    let n = length c.args.out.now in
-    let i = c.loop-i.i in
-    let end : n - i ≡ 0 = omega arith in
-    let all = take_all i c.loop-i.out (omega arith) in
-    record {
-      bits = subst Bits all c.loop-i.invariant.0;
-      after = ap read (sym all) ∙ c.loop-i.invariant.1 ∙ ap (λ m. c.args.number / 2 ^ m) end ∙ div-one c.args.number;
-    }

@@ -1,13 +1,8 @@
-use Rattle.std.proofs.Common.{◌≡◌, length, ◌∙◌}
+use Rattle.std.proofs.Common.{◌∙◌}
 use Rattle.std.proofs.lemmas.List.Sums.{fold-append}
 use Rattle.code.specs.Bits.{BitString}
 use Rattle.parity.proofs.Words.{word_made}
 use Rattle.parity.proofs.write_parity.Goals as goal
-
-pub write_number-requires-clause-fits : goal.write_number-requires-clause-fits
-write_number-requires-clause-fits g c =
-    let room : length c.args.out.now ≡ c.take_zeros.new.self.generator.degree = cc in
-    rw room c.lacks.ensures.bound
 
 pub returns : goal.returns
 returns g c =
