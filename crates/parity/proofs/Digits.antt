@@ -1,6 +1,7 @@
 -- Bits read as a number, the first at the highest power.
 use Rattle.std.proofs.Common.{◌≡◌, ℕ, zero, suc, ◌+◌, ◌*◌, ◌/◌, ◌%◌, ◌^◌, ◌<◌, List, [], ◌∷◌, ◌++◌, length, replicate, fold, sym, refl, ap, ◌∙◌, ap₂, ⊎_elim, mod-lt, mul_assoc, mul_comm, add-mul, pow-suc, div-one, add-one, arith, lit<}
 use native.Mathlib.Nat.{div-eq_of_lt, div-div-eq-div-mul}
+use Rattle.std.proofs.lemmas.List.Sums.{fold-append}
 use Rattle.code.specs.Bits.{Bits}
 use Rattle.parity.specs.Division.{read}
 use Rattle.parity.proofs.Xor.{bit_cases}
@@ -21,12 +22,12 @@ after a (y ∷ ys) =
     ap (λ n. a * n) (pow-suc 2 (length ys) ∙ mul_comm t 2) ∙ sym (mul_assoc a 2 t) ∙ ap (λ n. n * t) (mul_comm a 2) in
     omega (arith, one, two, same, apart, power)
 
-joined : (a : ℕ) (xs ys : List ℕ) → fold grow a (xs ++ ys) ≡ fold grow (fold grow a xs) ys
-joined a [] ys = refl
-joined a (x ∷ xs) ys = joined (2 * a + x) xs ys
-
 pub read-append : (xs ys : List ℕ) → read (xs ++ ys) ≡ read xs * 2 ^ length ys + read ys
-read-append xs ys = joined 0 xs ys ∙ after (read xs) ys
+read-append xs ys = fold-append grow 0 xs ys ∙ after (read xs) ys
+
+pub zeros_bits : (n : ℕ) → Bits (replicate {A = ℕ} n 0)
+zeros_bits zero = tt
+zeros_bits (suc n) = (omega arith, zeros_bits n)
 
 pub read_zeros : (n : ℕ) → read (replicate {A = ℕ} n 0) ≡ 0
 read_zeros zero = refl

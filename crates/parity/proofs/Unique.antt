@@ -3,10 +3,12 @@ use Rattle.std.proofs.Common.{◌≡◌, ℕ, zero, suc, ◌+◌, ◌*◌, ◌^�
 use lib.Bits.{bit_xor, xor_zero_l, xor_zero_r, xor_self, xor_lt}
 use lib.ListN.{length-replicate}
 use Rattle.std.proofs.lemmas.Bool.{cases_lt}
+use Rattle.std.proofs.ByRecursion.{All-append}
 use Rattle.code.specs.Bits.{Bits}
 use Rattle.code.specs.Part.{Sound}
 use Rattle.code.specs.declared.part.Generator.{Generator}
 use Rattle.parity.specs.Division.{Leaves, product, polynomial}
+use Rattle.parity.proofs.Digits.{zeros_bits}
 use Rattle.parity.proofs.Xor.{bit_cases, xor_double, xor_again, xor_equal, xor_pairs}
 
 module _ (p d : ℕ) (lead : 2 ^ d ≤ p) (top : p < 2 ^ (d + 1)) where
@@ -94,10 +96,6 @@ module _ (p d : ℕ) (lead : 2 ^ d ≤ p) (top : p < 2 ^ (d + 1)) where
       let z : grow 0 0 ≡ 0 = ap (bit_xor 0) (zero-mul p) in
       ap (λ n. fold grow n (replicate {A = ℕ} k 0 ++ q)) z ∙ leading_zeros k q
 
-padded_bits : (k : ℕ) (q : List ℕ) → Bits q → Bits (replicate {A = ℕ} k 0 ++ q)
-padded_bits zero q h = h
-padded_bits (suc k) q h = (omega arith, padded_bits k q h)
-
 padded_long : (k : ℕ) (q : List ℕ) → length (replicate {A = ℕ} k 0 ++ q) ≡ k + length q
 padded_long k q = length-append (replicate {A = ℕ} k 0) q ∙ omega (arith, length-replicate {A = ℕ} k 0)
 
@@ -116,8 +114,8 @@ one_remainder g sound bits r s one two =
     let n = length two.quotient in
     let first = replicate {A = ℕ} n 0 ++ one.quotient in
     let second = replicate {A = ℕ} m 0 ++ two.quotient in
-    let bits-first = padded_bits n one.quotient one.binary in
-    let bits-second = padded_bits m two.quotient two.binary in
+    let bits-first = All-append (λ b. b < 2) (replicate {A = ℕ} n 0) one.quotient (zeros_bits n) one.binary in
+    let bits-second = All-append (λ b. b < 2) (replicate {A = ℕ} m 0) two.quotient (zeros_bits m) two.binary in
     let even : length first ≡ length second = omega (arith, padded_long n one.quotient, padded_long m two.quotient) in
     let q = added p d lead top first second in
     let sum : bit_xor a b ≡ product q p =

@@ -1,5 +1,5 @@
 -- Every message has one word with right parity.
-use Rattle.std.proofs.Common.{◌≡◌, ℕ, zero, suc, eqb, Decides, eq-eqb, eqb-true, ◌+◌, ◌*◌, ◌^◌, ◌<◌, List, ◌++◌, length, drop, replicate, fold, sym, ap, ◌∙◌, subst, arith, length-append, length-drop, take-append-drop}
+use Rattle.std.proofs.Common.{◌≡◌, ℕ, eqb, Decides, eq-eqb, eqb-true, ◌+◌, ◌*◌, ◌^◌, ◌<◌, List, ◌++◌, length, drop, replicate, fold, sym, ap, ◌∙◌, subst, arith, length-append, length-drop, take-append-drop}
 use lib.Bits.{bit_xor, xor_shifted, xor_assoc, xor_comm, xor_zero_l, xor_self, xor_lt}
 use lib.ListN.{length-replicate}
 use Rattle.std.proofs.ByRecursion.{All-append, All-drop}
@@ -11,14 +11,10 @@ use Rattle.code.specs.declared.part.Rule.{Rule}
 use Rattle.parity.specs.Division.{Leaves, all_ones, read, product, polynomial}
 use Rattle.parity.specs.Register.{next}
 use Rattle.parity.specs.Parity.{RightParity, TheWordOf}
-use Rattle.parity.proofs.Digits.{bits_of, bits_of_bits, bits_of_long, read-append, read_back, read_lt, read_same, read_zeros}
+use Rattle.parity.proofs.Digits.{bits_of, bits_of_bits, bits_of_long, read-append, read_back, read_lt, read_same, read_zeros, zeros_bits}
 use Rattle.parity.proofs.Steps.{leaves_computed}
 use Rattle.parity.proofs.Unique.{one_remainder}
 use Rattle.parity.proofs.Xor.{xor_again, xor_nothing, xor_equal}
-
-pub zeros_bits : (n : ℕ) → Bits (replicate {A = ℕ} n 0)
-zeros_bits zero = tt
-zeros_bits (suc n) = (omega arith, zeros_bits n)
 
 module _ (g : Generator) (m p q : List ℕ) (bits-p : Bits p) (bits-q : Bits q) (long-p : length p ≡ g.degree) (long-q : length q ≡ g.degree) where
   shifted : (r : List ℕ) → Bits r → length r ≡ g.degree → read (m ++ r) ≡ bit_xor (read m * 2 ^ g.degree) (read r)
@@ -73,30 +69,33 @@ module _ (rule : Rule) (limits : Limits rule) (m : List ℕ) (message : Message 
             sym whole ∙ ap (λ (t : List ℕ). m ++ t) (sym same);
       }
 
-  -- what the register lacks once it has taken a message and zeros is the message's parity
-  pub word_made : (p : List ℕ) → BitString rule.generator.degree p
-      → read p ≡ bit_xor (fold (next rule.generator) 0 (m ++ replicate {A = ℕ} rule.generator.degree 0)) (all_ones rule.generator) → TheWordOf rule m (m ++ p)
+  -- what the register has left of a message and a zero for each bit of parity
+  abbrev left : ℕ
+  left = fold (next rule.generator) 0 (m ++ replicate {A = ℕ} rule.generator.degree 0)
+
+  leaves_left : Leaves rule.generator (m ++ replicate {A = ℕ} rule.generator.degree 0) left
+  leaves_left =
+      let d = rule.generator.degree in
+      leaves_computed rule.generator limits.generator (m ++ replicate {A = ℕ} d 0) (All-append (λ b. b < 2) m (replicate {A = ℕ} d 0) message.bits (zeros_bits d))
+
+  -- what the register lacks then is the message's parity
+  pub word_made : (p : List ℕ) → BitString rule.generator.degree p → read p ≡ bit_xor left (all_ones rule.generator) → TheWordOf rule m (m ++ p)
   word_made p parity lacks =
       let g = rule.generator in
       let zeros = replicate {A = ℕ} g.degree 0 in
       let ones = all_ones g in
-      let r = fold (next g) 0 (m ++ zeros) in
-      let left = leaves_computed g limits.generator (m ++ zeros) (All-append (λ b. b < 2) m zeros message.bits (zeros_bits g.degree)) in
-      let moved = leaves_moved g m zeros p (zeros_bits g.degree) parity.bits (length-replicate {A = ℕ} g.degree 0) parity.long r left in
-      let whole : bit_xor r (bit_xor (read zeros) (read p)) ≡ ones =
-      ap (bit_xor r) (ap (λ z. bit_xor z (read p)) (read_zeros g.degree) ∙ xor_zero_l (read p) ∙ lacks ∙ xor_comm r ones) ∙ xor_comm r (bit_xor ones r) ∙ xor_again ones r in
-      the_word p parity (subst (Leaves g (m ++ p)) whole moved)
+      let moved = leaves_moved g m zeros p (zeros_bits g.degree) parity.bits (length-replicate {A = ℕ} g.degree 0) parity.long left leaves_left in
+      let all : bit_xor left (bit_xor (read zeros) (read p)) ≡ ones =
+      ap (bit_xor left) (ap (λ z. bit_xor z (read p)) (read_zeros g.degree) ∙ xor_zero_l (read p) ∙ lacks ∙ xor_comm left ones)
+      ∙ xor_comm left (bit_xor ones left) ∙ xor_again ones left in
+      the_word p parity (subst (Leaves g (m ++ p)) all moved)
 
   -- and there is such parity
   pub some_word : (w : List ℕ) × TheWordOf rule m w
   some_word =
-      let g = rule.generator in
-      let d = g.degree in
-      let zeros = replicate {A = ℕ} d 0 in
-      let left = leaves_computed g limits.generator (m ++ zeros) (All-append (λ b. b < 2) m zeros message.bits (zeros_bits d)) in
-      let r = fold (next g) 0 (m ++ zeros) in
-      let v = bit_xor r (all_ones g) in
-      let small : v < 2 ^ d = xor_lt d r (all_ones g) left.small (omega (arith, left.small)) in
+      let d = rule.generator.degree in
+      let v = bit_xor left (all_ones rule.generator) in
+      let small : v < 2 ^ d = xor_lt d left (all_ones rule.generator) leaves_left.small (omega (arith, leaves_left.small)) in
       let p = bits_of d v in
       (m ++ p, word_made p (record { long = bits_of_long d v; bits = bits_of_bits d v }) (read_back d v small))
 
