@@ -31,21 +31,11 @@ back_sum e v w h k i = go (ltb k i)
     go true = before_sum e v w h (i - k)
     go false = get_or-sum v w h (k - i)
 
--- one more summand on each side
-more : (x s t a b : ℕ) → x % 2 ≡ (s + t) % 2 → (x + (a + b) % 2) % 2 ≡ ((s + a) + (t + b)) % 2
-more x s t a b h = omega arith
-
-ends : (x s t : ℕ) → x % 2 ≡ (s + t) % 2 → x % 2 ≡ (s % 2 + t % 2) % 2
-ends x s t h = omega arith
-
-first : (a b : ℕ) → ((a + b) % 2) % 2 ≡ (a + b) % 2
-first a b = omega arith
-
 four : (a b c d a' b' c' d' : ℕ) → ((a + a') % 2 + (b + b') % 2 + (c + c') % 2 + (d + d') % 2) % 2 ≡ ((a + b + c + d) % 2 + (a' + b' + c' + d') % 2) % 2
-four a b c d a' b' c' d' = ends _ (a + b + c + d) (a' + b' + c' + d') (more _ (a + b + c) (a' + b' + c') d d' (more _ (a + b) (a' + b') c c' (more _ a a' b b' (first a a'))))
+four a b c d a' b' c' d' = omega arith
 
 five : (a b c d e a' b' c' d' e' : ℕ) → ((a + a') % 2 + (b + b') % 2 + (c + c') % 2 + (d + d') % 2 + (e + e') % 2) % 2 ≡ ((a + b + c + d + e) % 2 + (a' + b' + c' + d' + e') % 2) % 2
-five a b c d e a' b' c' d' e' = ends _ (a + b + c + d + e) (a' + b' + c' + d' + e') (more _ (a + b + c + d) (a' + b' + c' + d') e e' (more _ (a + b + c) (a' + b' + c') d d' (more _ (a + b) (a' + b') c c' (more _ a a' b b' (first a a')))))
+five a b c d e a' b' c' d' e' = omega arith
 
 sums_sum : (r : ℕ) (a b c a' b' c' a'' b'' c'' : ℕ) → a % 2 ≡ (a' % 2 + a'' % 2) % 2 → b % 2 ≡ (b' % 2 + b'' % 2) % 2 → c % 2 ≡ (c' % 2 + c'' % 2) % 2 → cond (eqb r 0) a (cond (eqb r 1) b c) % 2 ≡ (cond (eqb r 0) a' (cond (eqb r 1) b' c') % 2 + cond (eqb r 0) a'' (cond (eqb r 1) b'' c'') % 2) % 2
 sums_sum r a b c a' b' c' a'' b'' c'' p q s = go (eqb r 0) (eqb r 1)
