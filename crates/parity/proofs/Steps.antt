@@ -51,12 +51,13 @@ module _ (g : Generator) (sound : Sound g) where
       (sym (ap (λ n. bit_xor n s) (ap (bit_xor (2 * p)) (omega arith)) ∙ ap (bit_xor (bit_xor (2 * p) (polynomial g))) (sym reduced) ∙ xor_both (2 * p) (polynomial g) x))))
       (cases_lt x (2 ^ d))
 
-  from : (done bits : List ℕ) (r : ℕ) → Bits bits → Leaves g done r → Leaves g (done ++ bits) (fold (next g) r bits)
-  from done [] r h old = subst (λ (l : List ℕ). Leaves g l r) (sym (append-nil done)) old
-  from done (b ∷ bits) r h old =
+  -- and with all of more bits
+  pub leaves_all : (done bits : List ℕ) (r : ℕ) → Bits bits → Leaves g done r → Leaves g (done ++ bits) (fold (next g) r bits)
+  leaves_all done [] r h old = subst (λ (l : List ℕ). Leaves g l r) (sym (append-nil done)) old
+  leaves_all done (b ∷ bits) r h old =
       subst (λ (l : List ℕ). Leaves g l (fold (next g) (next g r b) bits)) (append_assoc done (b ∷ []) bits)
-      (from (done ++ (b ∷ [])) bits (next g r b) h.1 (leaves_more done r b old h.0))
+      (leaves_all (done ++ (b ∷ [])) bits (next g r b) h.1 (leaves_more done r b old h.0))
 
   -- the remainder, worked out bit by bit
   pub leaves_computed : (bits : List ℕ) → Bits bits → Leaves g bits (fold (next g) 0 bits)
-  leaves_computed bits h = from [] bits 0 h leaves_none
+  leaves_computed bits h = leaves_all [] bits 0 h leaves_none

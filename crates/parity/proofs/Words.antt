@@ -1,6 +1,6 @@
 -- Every message has one word with right parity.
-use Rattle.std.proofs.Common.{◌≡◌, ℕ, eqb, Decides, eq-eqb, eqb-true, ◌+◌, ◌*◌, ◌^◌, ◌<◌, List, ◌++◌, length, drop, replicate, fold, sym, ap, ◌∙◌, subst, arith, length-append, length-drop, take-append-drop}
-use lib.Bits.{bit_xor, xor_shifted, xor_assoc, xor_comm, xor_zero_l, xor_self, xor_lt}
+use Rattle.std.proofs.Common.{◌≡◌, ℕ, ◌+◌, ◌*◌, ◌^◌, ◌<◌, List, ◌++◌, length, drop, replicate, fold, sym, ap, ◌∙◌, subst, arith, length-append, length-drop, take-append-drop}
+use lib.Bits.{bit_xor, xor_shifted, xor_assoc, xor_comm, xor_zero_l, xor_lt}
 use lib.ListN.{length-replicate}
 use Rattle.std.proofs.ByRecursion.{All-append, All-drop}
 use Rattle.std.proofs.lemmas.List.{take_at}
@@ -69,42 +69,27 @@ module _ (rule : Rule) (limits : Limits rule) (m : List ℕ) (message : Message 
             sym whole ∙ ap (λ (t : List ℕ). m ++ t) (sym same);
       }
 
-  -- what the register has left of a message and a zero for each bit of parity
-  abbrev left : ℕ
-  left = fold (next rule.generator) 0 (m ++ replicate {A = ℕ} rule.generator.degree 0)
-
-  leaves_left : Leaves rule.generator (m ++ replicate {A = ℕ} rule.generator.degree 0) left
-  leaves_left =
-      let d = rule.generator.degree in
-      leaves_computed rule.generator limits.generator (m ++ replicate {A = ℕ} d 0) (All-append (λ b. b < 2) m (replicate {A = ℕ} d 0) message.bits (zeros_bits d))
-
-  -- what the register lacks then is the message's parity
-  pub word_made : (p : List ℕ) → BitString rule.generator.degree p → read p ≡ bit_xor left (all_ones rule.generator) → TheWordOf rule m (m ++ p)
-  word_made p parity lacks =
+  -- what the register lacks once it has taken a message and a zero for each bit of parity is the parity
+  pub word_made : (p : List ℕ) → BitString rule.generator.degree p → (r : ℕ) → Leaves rule.generator (m ++ replicate {A = ℕ} rule.generator.degree 0) r
+      → read p ≡ bit_xor r (all_ones rule.generator) → TheWordOf rule m (m ++ p)
+  word_made p parity r left lacks =
       let g = rule.generator in
       let zeros = replicate {A = ℕ} g.degree 0 in
       let ones = all_ones g in
-      let moved = leaves_moved g m zeros p (zeros_bits g.degree) parity.bits (length-replicate {A = ℕ} g.degree 0) parity.long left leaves_left in
-      let all : bit_xor left (bit_xor (read zeros) (read p)) ≡ ones =
-      ap (bit_xor left) (ap (λ z. bit_xor z (read p)) (read_zeros g.degree) ∙ xor_zero_l (read p) ∙ lacks ∙ xor_comm left ones)
-      ∙ xor_comm left (bit_xor ones left) ∙ xor_again ones left in
+      let moved = leaves_moved g m zeros p (zeros_bits g.degree) parity.bits (length-replicate {A = ℕ} g.degree 0) parity.long r left in
+      let all : bit_xor r (bit_xor (read zeros) (read p)) ≡ ones =
+      ap (bit_xor r) (ap (λ z. bit_xor z (read p)) (read_zeros g.degree) ∙ xor_zero_l (read p) ∙ lacks ∙ xor_comm r ones) ∙ xor_comm r (bit_xor ones r) ∙ xor_again ones r in
       the_word p parity (subst (Leaves g (m ++ p)) all moved)
 
   -- and there is such parity
   pub some_word : (w : List ℕ) × TheWordOf rule m w
   some_word =
-      let d = rule.generator.degree in
-      let v = bit_xor left (all_ones rule.generator) in
-      let small : v < 2 ^ d = xor_lt d left (all_ones rule.generator) leaves_left.small (omega (arith, leaves_left.small)) in
+      let g = rule.generator in
+      let d = g.degree in
+      let zeros = replicate {A = ℕ} d 0 in
+      let left = leaves_computed g limits.generator (m ++ zeros) (All-append (λ b. b < 2) m zeros message.bits (zeros_bits d)) in
+      let r = fold (next g) 0 (m ++ zeros) in
+      let v = bit_xor r (all_ones g) in
+      let small : v < 2 ^ d = xor_lt d r (all_ones g) left.small (omega (arith, left.small)) in
       let p = bits_of d v in
-      (m ++ p, word_made p (record { long = bits_of_long d v; bits = bits_of_bits d v }) (read_back d v small))
-
--- the register lacks nothing just where division of what it has taken leaves ones
-pub lacks_nothing : (g : Generator) → Sound g → (bits : List ℕ) → Bits bits → Decides (eqb (bit_xor (fold (next g) 0 bits) (all_ones g)) 0) (Leaves g bits (all_ones g))
-lacks_nothing g sound bits h =
-    let r = fold (next g) 0 bits in
-    let ones = all_ones g in
-    let left = leaves_computed g sound bits h in (
-      λ none. subst (Leaves g bits) (xor_equal r ones (eqb-true _ _ none)) left,
-      λ right. eq-eqb _ _ (ap (λ n. bit_xor n ones) (one_remainder g sound bits r ones left right) ∙ xor_self ones),
-    )
+      (m ++ p, word_made p (record { long = bits_of_long d v; bits = bits_of_bits d v }) r left (read_back d v small))

@@ -1,8 +1,8 @@
 // Division of polynomials over GF(2), bit by bit.
-ghost use Rattle.std.specs.Prelude.{◌≡◌, ◌^◌, ◌<◌, fold, replicate, bit_xor};
+ghost use Rattle.std.specs.Prelude.{◌≡◌, ℕ, ◌^◌, ◌<◌, fold, replicate, bit_xor};
 ghost use Rattle.code.specs.Bits.{Bits};
 ghost use Rattle.code.specs.Part.{Sound};
-ghost use Rattle.parity.specs.Division.{all_ones};
+ghost use Rattle.parity.specs.Division.{Leaves, all_ones};
 ghost use Rattle.parity.specs.Register.{next};
 
 use code::{CodePart, Generator};
@@ -17,19 +17,25 @@ pub struct Register {
 }
 
 impl Register {
-    // The register of a part's polynomial, with no bit taken yet.
-    pub fn of<C: CodePart>(part: &C) -> Self
+    // The register of a part's polynomial, once it has taken the bits.
+    pub fn after<C: CodePart>(part: &C, bits: &[u8]) -> Self
+        requires binary { Bits bits.now }
         ensures divisor { result.generator ≡ (C.rule part.now).generator }
-        ensures empty { result.left ≡ 0 }
+        ensures value { Leaves (C.rule part.now).generator bits.now result.left }
+        ensures only { (s : ℕ) → Leaves (C.rule part.now).generator bits.now s → s ≡ result.left }
     {
-        Register {
+        let mut register = Register {
             generator: part.generator(),
             left: 0,
+        };
+        for bit in bits {
+            register.take(*bit);
         }
+        register
     }
 
     // Takes one more bit.
-    fn take_bit(&mut self, bit: u8)
+    fn take(&mut self, bit: u8)
         requires binary { bit < 2 }
         ensures divisor { self.new.generator ≡ self.old.generator }
         ensures left { self.new.left ≡ next self.old.generator self.old.left bit }
@@ -43,24 +49,13 @@ impl Register {
         }
     }
 
-    // Takes more bits.
-    pub fn take(&mut self, bits: &[u8])
-        requires binary { Bits bits.now }
-        ensures divisor { self.new.generator ≡ self.old.generator }
-        ensures left { self.new.left ≡ fold (next self.old.generator) self.old.left bits.now }
-    {
-        for bit in bits {
-            self.take_bit(*bit);
-        }
-    }
-
     // Takes a zero for each power below the polynomial's degree.
     pub fn take_zeros(&mut self)
         ensures divisor { self.new.generator ≡ self.old.generator }
         ensures left { self.new.left ≡ fold (next self.old.generator) self.old.left (replicate self.old.generator.degree 0) }
     {
         for _zero in 0..self.generator.degree {
-            self.take_bit(0);
+            self.take(0);
         }
     }
 

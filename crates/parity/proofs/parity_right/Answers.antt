@@ -1,11 +1,22 @@
-use Rattle.std.proofs.Common.{rules}
-use Rattle.parity.proofs.Words.{lacks_nothing}
+use Rattle.std.proofs.Common.{◌≡◌, rules, eqb-true, eq-eqb, ap, sym, ◌∙◌, subst}
+use lib.Bits.{bit_xor, xor_self}
+use Rattle.parity.specs.Division.{Leaves, all_ones}
+use Rattle.parity.proofs.Xor.{xor_equal}
 use Rattle.parity.proofs.parity_right.Goals as goal
 
 pub returns : goal.returns
 returns g c =
-    let rule = g.C.CodePart.rule c.args.part.now in
-    let limits = g.met.C.CodePart.limits c.args.part.now in
-    let passed = c.in_ok-check_string.ensures.passed in
-    let lacks = rw (c.take.ensures.left, c.take.ensures.divisor, c.of-register.ensures.divisor, c.of-register.ensures.empty) at c.lacks.ensures.value in
-    record { value = (search rules, rw lacks (lacks_nothing rule.generator limits.generator c.args.word.now passed.bits)) }
+    let divisor = (g.C.CodePart.rule c.args.part.now).generator in
+    let ones = all_ones divisor in
+    let register = c.after-register.ensures in
+    let left = c.after-register.result.left in
+    let lacks : c.lacks.result ≡ bit_xor left ones = rw register.divisor at c.lacks.ensures.value in
+    record {
+      value = (
+        search rules,
+        (
+          λ none. subst (Leaves divisor c.args.word.now) (xor_equal left ones (sym lacks ∙ eqb-true _ _ none)) register.value,
+          λ right. eq-eqb _ _ (lacks ∙ ap (λ n. bit_xor n ones) (sym (register.only ones right)) ∙ xor_self ones),
+        ),
+      );
+    }
