@@ -1,6 +1,6 @@
 -- Every message has one word with right parity.
-use Rattle.std.proofs.Common.{◌≡◌, ℕ, ◌+◌, ◌*◌, ◌^◌, ◌<◌, List, ◌++◌, length, drop, replicate, fold, sym, ap, ◌∙◌, subst, arith, length-append, length-drop, take-append-drop}
-use lib.Bits.{bit_xor, xor_shifted, xor_assoc, xor_comm, xor_zero_l, xor_lt}
+use Rattle.std.proofs.Common.{◌≡◌, ℕ, Decides, eqb, eq-eqb, eqb-true, ◌+◌, ◌*◌, ◌^◌, ◌<◌, List, ◌++◌, length, drop, replicate, fold, sym, ap, ◌∙◌, subst, arith, length-append, length-drop, take-append-drop}
+use lib.Bits.{bit_xor, xor_shifted, xor_assoc, xor_comm, xor_zero_l, xor_self, xor_lt}
 use lib.ListN.{length-replicate}
 use Rattle.std.proofs.ByRecursion.{All-append, All-drop}
 use Rattle.std.proofs.lemmas.List.{take_at}
@@ -93,3 +93,12 @@ module _ (rule : Rule) (limits : Limits rule) (m : List ℕ) (message : Message 
       let small : v < 2 ^ d = xor_lt d r (all_ones g) left.small (omega (arith, left.small)) in
       let p = bits_of d v in
       (m ++ p, word_made p (record { long = bits_of_long d v; bits = bits_of_bits d v }) r left (read_back d v small))
+
+-- what is left lacks nothing just where division leaves ones
+pub lacks_nothing : (g : Generator) (bits : List ℕ) (r lacks : ℕ) → Leaves g bits r → ((s : ℕ) → Leaves g bits s → s ≡ r) → lacks ≡ bit_xor r (all_ones g)
+    → Decides (eqb lacks 0) (Leaves g bits (all_ones g))
+lacks_nothing g bits r lacks left only is =
+    let ones = all_ones g in (
+      λ none. subst (Leaves g bits) (xor_equal r ones (sym is ∙ eqb-true _ _ none)) left,
+      λ right. eq-eqb _ _ (is ∙ ap (λ n. bit_xor n ones) (sym (only ones right)) ∙ xor_self ones),
+    )
