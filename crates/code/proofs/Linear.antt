@@ -53,16 +53,11 @@ coded_sum e v w h p =
     (simp (back_sum e v w h k) (five (back e v k 0) (back e v k 1) (back e v k 2) (back e v k 3) (back e v k 6) (back e w k 0) (back e w k 1) (back e w k 2) (back e w k 3) (back e w k 6)))
     (simp (back_sum e v w h k) (four (back e v k 0) (back e v k 1) (back e v k 4) (back e v k 6) (back e w k 0) (back e w k 1) (back e w k 4) (back e w k 6)))
 
-sum_maps : (f g : ℕ → ℕ) (cs : List ℕ) → map (λ c. (f c + g c) % 2) cs ≡ sum_word (map f cs) (map g cs)
-sum_maps f g [] = refl
-sum_maps f g (c ∷ cs) = ap (λ (t : List ℕ). (f c + g c) % 2 ∷ t) (sum_maps f g cs)
-
-same_maps : (f g : ℕ → ℕ) → ((c : ℕ) → f c ≡ g c) → (cs : List ℕ) → map f cs ≡ map g cs
-same_maps f g e [] = refl
-same_maps f g e (c ∷ cs) = ap₂ ◌∷◌ (e c) (same_maps f g e cs)
+sum_maps : (f g h : ℕ → ℕ) → ((c : ℕ) → h c ≡ (f c + g c) % 2) → (cs : List ℕ) → map h cs ≡ sum_word (map f cs) (map g cs)
+sum_maps f g h e [] = refl
+sum_maps f g h e (c ∷ cs) = ap₂ ◌∷◌ (e c) (sum_maps f g h e cs)
 
 pub coded_word_sum : (r : Rule) (v w : List ℕ) → length v ≡ length w → coded_word r (sum_word v w) ≡ sum_word (coded_word r v) (coded_word r w)
 coded_word_sum r v w h =
     let e = r.ending in
-    let cs = range_with_len 0 (places r) in
-    same_maps (coded e (sum_word v w)) (λ c. (coded e v c + coded e w c) % 2) (coded_sum e v w h) cs ∙ sum_maps (coded e v) (coded e w) cs
+    sum_maps (coded e v) (coded e w) (coded e (sum_word v w)) (coded_sum e v w h) (range_with_len 0 (places r))

@@ -49,17 +49,7 @@ read_lt (b ∷ xs) h =
 
 -- numbers below t, each behind a bit at t
 lead_same : (t a b x y : ℕ) → a < 2 → b < 2 → x < t → y < t → a * t + x ≡ b * t + y → (a ≡ b) × (x ≡ y)
-lead_same t a b x y ha hb hx hy h =
-    ⊎_elim
-    (λ (e : a ≡ 0). ⊎_elim
-    (λ (f : b ≡ 0). (omega arith, omega (arith, ap (λ n. n * t) e, ap (λ n. n * t) f)))
-    (λ (f : b ≡ 1). absurd (omega (arith, ap (λ n. n * t) e, ap (λ n. n * t) f)))
-    (bit_cases b hb))
-    (λ (e : a ≡ 1). ⊎_elim
-    (λ (f : b ≡ 0). absurd (omega (arith, ap (λ n. n * t) e, ap (λ n. n * t) f)))
-    (λ (f : b ≡ 1). (omega arith, omega (arith, ap (λ n. n * t) e, ap (λ n. n * t) f)))
-    (bit_cases b hb))
-    (bit_cases a ha)
+lead_same t a b x y ha hb hx hy h = (grind arith, grind arith)
 
 -- strings of one length that read alike are equal
 pub read_same : (xs ys : List ℕ) → Bits xs → Bits ys → length xs ≡ length ys → read xs ≡ read ys → xs ≡ ys
