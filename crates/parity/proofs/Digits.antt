@@ -1,10 +1,9 @@
 -- Bits read as a number, the first at the highest power.
-use Rattle.std.proofs.Common.{◌≡◌, ℕ, zero, suc, ◌+◌, ◌*◌, ◌/◌, ◌%◌, ◌^◌, ◌<◌, List, [], ◌∷◌, ◌++◌, length, replicate, fold, sym, refl, ap, ◌∙◌, ap₂, ⊎_elim, mod-lt, mul_assoc, mul_comm, add-mul, pow-suc, div-one, add-one, arith, lit<}
+use Rattle.std.proofs.Common.{◌≡◌, ℕ, zero, suc, ◌+◌, ◌*◌, ◌/◌, ◌%◌, ◌^◌, ◌<◌, List, [], ◌∷◌, ◌++◌, length, replicate, fold, sym, refl, ap, ◌∙◌, ap₂, mod-lt, mul_assoc, mul_comm, add-mul, pow-suc, div-one, add-one, arith, lit<}
 use native.Mathlib.Nat.{div-eq_of_lt, div-div-eq-div-mul}
 use Rattle.std.proofs.lemmas.List.Sums.{fold-append}
 use Rattle.code.specs.Bits.{Bits}
 use Rattle.parity.specs.Division.{read}
-use Rattle.parity.proofs.Xor.{bit_cases}
 
 abbrev grow : ℕ → ℕ → ℕ
 grow a b = 2 * a + b
@@ -38,14 +37,7 @@ read-cons b xs = ap (λ n. fold grow n xs) (omega arith) ∙ after b xs
 
 pub read_lt : (xs : List ℕ) → Bits xs → read xs < 2 ^ length xs
 read_lt [] h = omega arith
-read_lt (b ∷ xs) h =
-    let t = 2 ^ length xs in
-    let rest : read xs < t = read_lt xs h.1 in
-    let power : 2 ^ suc (length xs) ≡ t * 2 = pow-suc 2 (length xs) in
-    ⊎_elim
-    (λ (e : b ≡ 0). omega (arith, read-cons b xs, ap (λ n. n * t) e, rest, power))
-    (λ (e : b ≡ 1). omega (arith, read-cons b xs, ap (λ n. n * t) e, rest, power))
-    (bit_cases b h.0)
+read_lt (b ∷ xs) h = let rest : read xs < 2 ^ length xs = read_lt xs h.1 in grind (arith, read-cons b xs, pow-suc 2 (length xs), h.0)
 
 -- numbers below t, each behind a bit at t
 lead_same : (t a b x y : ℕ) → a < 2 → b < 2 → x < t → y < t → a * t + x ≡ b * t + y → (a ≡ b) × (x ≡ y)

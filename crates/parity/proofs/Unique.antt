@@ -1,5 +1,5 @@
 -- A division leaves one remainder: a sum of two multiples of the polynomial is a multiple, and a multiple that is not zero has its degree or more.
-use Rattle.std.proofs.Common.{◌≡◌, ℕ, zero, suc, ◌+◌, ◌*◌, ◌^◌, ◌<◌, ◌≤◌, ◌⊎◌, List, [], ◌∷◌, ◌++◌, length, replicate, fold, sym, refl, ap, ◌∙◌, subst, ap₂, inl, inr, ⊎_elim, one-mul, zero-mul, arith, length-append, pow_pos, pow-add}
+use Rattle.std.proofs.Common.{◌≡◌, ℕ, zero, suc, ◌+◌, ◌*◌, ◌^◌, ◌<◌, ◌≤◌, ◌⊎◌, List, [], ◌∷◌, ◌++◌, length, replicate, fold, sym, refl, ap, ◌∙◌, subst, ap₂, inl, inr, ⊎_elim, one-mul, zero-mul, arith, length-append, pow-add}
 use lib.Bits.{bit_xor, xor_zero_l, xor_zero_r, xor_self, xor_lt}
 use lib.ListN.{length-replicate}
 use Rattle.std.proofs.lemmas.Bool.{cases_lt}
@@ -19,11 +19,7 @@ module _ (p d : ℕ) (lead : 2 ^ d ≤ p) (top : p < 2 ^ (d + 1)) where
   twice = pow-add 2 d 1 ∙ omega arith
 
   multiple : (b : ℕ) → b < 2 → b * p < 2 ^ (d + 1)
-  multiple b h =
-      ⊎_elim
-      (λ (e : b ≡ 0). rw (e, zero-mul p) (pow_pos (d + 1)))
-      (λ (e : b ≡ 1). rw (e, one-mul p) top)
-      (bit_cases b h)
+  multiple b h = grind arith
 
   large_step : (a b : ℕ) → b < 2 → 2 ^ d ≤ a → 2 ^ d ≤ grow a b
   large_step a b h l =

@@ -1,25 +1,17 @@
 -- Sums over GF(2) of numbers as polynomials.
-use Rattle.std.proofs.Common.{◌≡◌, ℕ, ◌+◌, ◌*◌, ◌^◌, ◌<◌, ◌≤◌, ◌⊎◌, sym, ap, ◌∙◌, inl, inr, ⊎_elim, arith}
+use Rattle.std.proofs.Common.{◌≡◌, ℕ, ◌+◌, ◌*◌, ◌^◌, ◌<◌, ◌⊎◌, sym, ap, ◌∙◌, arith}
 use lib.Bits.{bit_xor, xor_block, xor_zero_l, xor_zero_r, xor_self, xor_comm, xor_assoc}
-use Rattle.std.proofs.lemmas.Bool.{cases_lt}
 
 pub bit_cases : (b : ℕ) → b < 2 → (b ≡ 0) ⊎ (b ≡ 1)
-bit_cases b h = ⊎_elim (λ (l : b < 1). inl (omega arith)) (λ (l : 1 ≤ b). inr (omega arith)) (cases_lt b 1)
+bit_cases b h = grind arith
 
 -- one power up, and one more bit
 pub xor_double : (t r b : ℕ) → b < 2 → 2 * bit_xor t r + b ≡ bit_xor (2 * t) (2 * r + b)
-xor_double t r b h =
-    let e : bit_xor (t * 2 + 0) (r * 2 + b) ≡ bit_xor t r * 2 + bit_xor 0 b = xor_block 1 t r 0 b (omega arith) h in
-    let l : t * 2 + 0 ≡ 2 * t = omega arith in
-    let m : r * 2 + b ≡ 2 * r + b = omega arith in
-    let z : bit_xor 0 b ≡ b = xor_zero_l b in
-    let f : bit_xor (2 * t) (2 * r + b) ≡ bit_xor t r * 2 + b =
-    ap (λ x. bit_xor x (2 * r + b)) (sym l) ∙ ap (λ y. bit_xor (t * 2 + 0) y) (sym m) ∙ e ∙ ap (λ y. bit_xor t r * 2 + y) z in
-    omega arith
+xor_double t r b h = grind (arith, xor_block 1 t r 0 b (omega arith) h, xor_zero_l b)
 
 -- what was added is taken off by adding it again
 pub xor_again : (x y : ℕ) → bit_xor (bit_xor x y) y ≡ x
-xor_again x y = xor_assoc x y y ∙ ap (bit_xor x) (xor_self y) ∙ xor_zero_r x
+xor_again x y = cc (xor_assoc x y y, xor_self y, xor_zero_r x)
 
 -- what is added on both sides goes
 pub xor_both : (t g s : ℕ) → bit_xor (bit_xor t g) (bit_xor s g) ≡ bit_xor t s
@@ -29,19 +21,15 @@ xor_both t g s =
 
 -- what adds nothing is zero
 pub xor_nothing : (x y : ℕ) → x ≡ bit_xor x y → y ≡ 0
-xor_nothing x y e =
-    sym (xor_again y x) ∙ ap (λ n. bit_xor n x) (xor_comm y x ∙ sym e) ∙ xor_self x
+xor_nothing x y e = cc (xor_again y x, xor_comm y x, xor_self x)
 
 -- two numbers whose sum is zero are equal
 pub xor_equal : (x y : ℕ) → bit_xor x y ≡ 0 → x ≡ y
-xor_equal x y e = sym (xor_again x y) ∙ ap (λ n. bit_xor n y) e ∙ xor_zero_l y
+xor_equal x y e = cc (xor_again x y, xor_zero_l y)
 
 -- two numbers with a leading one at the same place
 pub xor_leading : (d s t : ℕ) → s < 2 ^ d → t < 2 ^ d → bit_xor (2 ^ d + s) (2 ^ d + t) ≡ bit_xor s t
-xor_leading d s t hs ht =
-    let e : bit_xor (1 * 2 ^ d + s) (1 * 2 ^ d + t) ≡ bit_xor 1 1 * 2 ^ d + bit_xor s t = xor_block d 1 1 s t hs ht in
-    let o : 1 * 2 ^ d ≡ 2 ^ d = omega arith in
-    ap (λ x. bit_xor (x + s) (x + t)) (sym o) ∙ e ∙ omega arith
+xor_leading d s t hs ht = grind (arith, xor_block d 1 1 s t hs ht)
 
 -- sums of sums, paired the other way
 pub xor_pairs : (x u y v : ℕ) → bit_xor (bit_xor x u) (bit_xor y v) ≡ bit_xor (bit_xor x y) (bit_xor u v)
