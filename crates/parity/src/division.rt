@@ -5,7 +5,7 @@ ghost use Rattle.code.specs.Part.{Sound};
 ghost use Rattle.parity.specs.Division.{Leaves, all_ones};
 ghost use Rattle.parity.specs.Register.{next};
 
-use code::{CodePart, Generator};
+use code::Generator;
 
 // The register of a division: the polynomial that divides, and what is left of the bits taken so far.
 #[derive(Drop)]
@@ -17,17 +17,15 @@ pub struct Register {
 }
 
 impl Register {
-    // The register of a part's polynomial, once it has taken the bits.
-    pub fn after<C: CodePart>(part: &C, bits: &[u8]) -> Self
+    // The register of a division by the generator, once it has taken the bits.
+    pub fn after(generator: Generator, bits: &[u8]) -> Self
+        requires sound { Sound generator }
         requires binary { Bits bits.now }
-        ensures divisor { result.generator ≡ (C.rule part.now).generator }
-        ensures value { Leaves (C.rule part.now).generator bits.now result.left }
-        ensures only { (s : ℕ) → Leaves (C.rule part.now).generator bits.now s → s ≡ result.left }
+        ensures divisor { result.generator ≡ generator }
+        ensures value { Leaves generator bits.now result.left }
+        ensures only { (s : ℕ) → Leaves generator bits.now s → s ≡ result.left }
     {
-        let mut register = Register {
-            generator: part.generator(),
-            left: 0,
-        };
+        let mut register = Register { generator, left: 0 };
         for bit in bits {
             register.take(*bit);
         }

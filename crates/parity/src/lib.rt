@@ -55,7 +55,7 @@ pub fn parity_right<C: CodePart>(part: &C, word: &[u8]) -> Result<bool, ParityFa
     ensures value { Judged (C.rule part.now) word.now result }
 {
     check_string(word, part.word_length())?;
-    let register = Register::after(part, word);
+    let register = Register::after(part.generator(), word);
     Ok(register.lacks() == 0)
 }
 
@@ -65,7 +65,7 @@ fn write_parity<C: CodePart>(part: &C, message: &[u8], out: &mut [u8])
     requires room { length out.old ≡ (C.rule part.now).generator.degree }
     ensures after { TheWordOf (C.rule part.now) message.now (message.now ++ out.new) }
 {
-    let mut register = Register::after(part, message);
+    let mut register = Register::after(part.generator(), message);
     register.take_zeros();
     write_number(register.lacks(), out);
 }

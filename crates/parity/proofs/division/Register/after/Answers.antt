@@ -5,14 +5,13 @@ use Rattle.parity.proofs.Unique.{one_remainder}
 use Rattle.parity.proofs.division.Register.after.Goals as goal
 
 pub returns : goal.returns
-returns g c =
-    let divisor = (g.C.CodePart.rule c.args.part.now).generator in
-    let sound = (g.met.C.CodePart.limits c.args.part.now).generator in
+returns c =
+    let divisor = c.args.generator in
     let bits = c.args.bits.now in
     let left = rw (take_all _ _ c.loop-bit-test.false) at c.loop-bit.invariant.1 in
-    let leaves = subst (Leaves divisor bits) (sym left) (leaves_computed divisor sound bits c.requires.binary) in
+    let leaves = subst (Leaves divisor bits) (sym left) (leaves_computed divisor c.requires.sound bits c.requires.binary) in
     record {
       divisor = c.loop-bit.invariant.0;
       value = leaves;
-      only = λ s other. one_remainder divisor sound bits s _ other leaves;
+      only = λ s other. one_remainder divisor c.requires.sound bits s _ other leaves;
     }
