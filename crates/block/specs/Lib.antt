@@ -2,3 +2,4 @@ pub mod Layout
 pub mod Blocks
 pub mod Rows
 pub mod Limits
+pub mod Names

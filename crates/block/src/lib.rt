@@ -3,8 +3,10 @@
 
 mod block;
 mod blocks;
+mod name;
 mod pile;
 
 pub use block::{Block, MOST_BURSTS, MOST_CODED};
 pub use blocks::EcBlock;
+pub use name::UnknownBlock;
 pub use pile::EcPile;
