@@ -1,6 +1,6 @@
 -- What a block is: its code parts in order, and a pile of placements that takes their coded places to bursts.
-use Rattle.std.specs.Prelude.{◌≡◌, ℕ, ◌+◌, ◌≤◌, List, [], ◌∷◌}
-use Rattle.std.specs.List.{AllByRecursion}
+use Rattle.std.specs.Prelude.{◌≡◌, ℕ, ◌≤◌, List}
+use Rattle.std.specs.List.{AllByRecursion, sum_by}
 use Rattle.code.specs.Part.{places, Limits as PartLimits}
 use Rattle.code.specs.declared.part.Rule.{Rule}
 use Rattle.placement.specs.Placing.{Placing, Sound}
@@ -13,14 +13,9 @@ pub record Layout : Type 0 where
   -- how often at most a burst of one number is accepted
   pub repeats : ℕ
 
--- a figure of all parts together
-abbrev pub total : (Rule → ℕ) → List Rule → ℕ
-total figure [] = 0
-total figure (r ∷ rs) = figure r + total figure rs
-
 -- how many bits a message of a block has
 abbrev pub message_length : Layout → ℕ
-message_length l = total (λ p. p.message) l.parts
+message_length l = sum_by (λ p. p.message) l.parts
 
 -- the limits of every block
 pub record Limits (l : Layout) : Type 0 where
@@ -31,5 +26,5 @@ pub record Limits (l : Layout) : Type 0 where
   pub repeats_least : 1 ≤ l.repeats
   pub repeats_most : l.repeats ≤ 48
   -- the pile's coded places are those of all parts, part 0's first
-  pub pile_coded : l.pile.coded ≡ total places l.parts
+  pub pile_coded : l.pile.coded ≡ sum_by places l.parts
   pub coded_most : l.pile.coded ≤ 1024

@@ -1,5 +1,5 @@
 pub mod Layout
+pub mod Left
 pub mod Blocks
-pub mod Rows
 pub mod Limits
 pub mod Names

@@ -1,7 +1,7 @@
 -- The piles of the five blocks are placements, and the blocks keep their limits.
 use Rattle.std.specs.Prelude.{◌≡◌, Bool, true, ◌&&◌, ◌==◌, nat_le, refl}
 use Rattle.std.proofs.lemmas.Bool.{and_parts, leb-true, eqb-true}
-use Rattle.std.specs.List.{AllByRecursion}
+use Rattle.std.specs.List.{AllByRecursion, sum_by}
 use Rattle.code.specs.Part.{places, Limits as PartLimits}
 use Rattle.code.specs.declared.parts.EcPart.TheVariants.{CcchDown as ccch_down, PacchDown as pacch_down, PacchUp as pacch_up, PacchUp48 as pacch_up_48, McsHeader, McsData}
 use Rattle.code.specs.Limits.{table_limits}
@@ -9,7 +9,7 @@ use Rattle.placement.specs.Placing.{Sound}
 use Rattle.placement.specs.Sounds.{over_sound, straight_sound, split_by_two_sound, split_by_ten_sound, flagged_sound, interleaved_sound}
 use Rattle.puncturing.specs.declared.KeptList.TheVariants.{CcchDown as ccch_down_kept, PacchDown as pacch_down_kept, PacchUp as pacch_up_kept, PacchUp48 as pacch_up_48_kept, Mcs as mcs_kept}
 use Rattle.puncturing.specs.Listed.{listed_sound}
-use Rattle.block.specs.Layout.{Layout, total, Limits}
+use Rattle.block.specs.Layout.{Layout, Limits}
 use Rattle.block.specs.Blocks.{layout_of, pile_placing}
 use Rattle.block.specs.declared.blocks.EcBlock.{EcBlock}
 use Rattle.block.specs.declared.blocks.EcBlock.TheVariants.{CcchDown, PacchDown, PacchUp, PacchUp48, Mcs}
@@ -22,24 +22,10 @@ pile_sound (SplitByTwo p) = over_sound _ _ split_by_two_sound (listed_sound p.be
 pile_sound (SplitByTen p) =
     over_sound _ _ split_by_ten_sound (over_sound _ _ interleaved_sound (over_sound _ _ flagged_sound (listed_sound p.below.below.below)))
 
-parts_limits : (b : EcBlock) → AllByRecursion PartLimits (layout_of b).parts
-parts_limits CcchDown = (table_limits ccch_down, tt)
-parts_limits PacchDown = (table_limits pacch_down, tt)
-parts_limits PacchUp = (table_limits pacch_up, tt)
-parts_limits PacchUp48 = (table_limits pacch_up_48, tt)
-parts_limits Mcs = (table_limits McsHeader, (table_limits McsData, tt))
-
-piles : (b : EcBlock) → Sound (layout_of b).pile
-piles CcchDown = over_sound _ _ (straight_sound 2) (listed_sound ccch_down_kept)
-piles PacchDown = over_sound _ _ split_by_two_sound (listed_sound pacch_down_kept)
-piles PacchUp = over_sound _ _ (straight_sound 4) (listed_sound pacch_up_kept)
-piles PacchUp48 = over_sound _ _ (straight_sound 4) (listed_sound pacch_up_48_kept)
-piles Mcs = over_sound _ _ split_by_ten_sound (over_sound _ _ interleaved_sound (over_sound _ _ flagged_sound (listed_sound mcs_kept)))
-
 abbrev within : Layout → Bool
 within l =
     nat_le 1 l.bursts && nat_le l.bursts 4 && nat_le 1 l.repeats && nat_le l.repeats 48
-    && l.pile.coded == total places l.parts && nat_le l.pile.coded 1024
+    && l.pile.coded == sum_by places l.parts && nat_le l.pile.coded 1024
 
 tested : (l : Layout) → AllByRecursion PartLimits l.parts → Sound l.pile → within l ≡ true → Limits l
 tested l parts pile t =
@@ -59,12 +45,9 @@ tested l parts pile t =
       coded_most = leb-true _ _ a.1;
     }
 
-table_tested : (b : EcBlock) → within (layout_of b) ≡ true
-table_tested CcchDown = refl
-table_tested PacchDown = refl
-table_tested PacchUp = refl
-table_tested PacchUp48 = refl
-table_tested Mcs = refl
-
 pub block_limits : (b : EcBlock) → Limits (layout_of b)
-block_limits b = tested (layout_of b) (parts_limits b) (piles b) (table_tested b)
+block_limits CcchDown = tested _ (table_limits ccch_down, tt) (over_sound _ _ (straight_sound 2) (listed_sound ccch_down_kept)) refl
+block_limits PacchDown = tested _ (table_limits pacch_down, tt) (over_sound _ _ split_by_two_sound (listed_sound pacch_down_kept)) refl
+block_limits PacchUp = tested _ (table_limits pacch_up, tt) (over_sound _ _ (straight_sound 4) (listed_sound pacch_up_kept)) refl
+block_limits PacchUp48 = tested _ (table_limits pacch_up_48, tt) (over_sound _ _ (straight_sound 4) (listed_sound pacch_up_48_kept)) refl
+block_limits Mcs = tested _ (table_limits McsHeader, (table_limits McsData, tt)) (over_sound _ _ split_by_ten_sound (over_sound _ _ interleaved_sound (over_sound _ _ flagged_sound (listed_sound mcs_kept)))) refl

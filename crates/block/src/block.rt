@@ -3,7 +3,9 @@ ghost use Rattle.std.specs.Prelude.{◌≡◌, length};
 ghost use Rattle.std.specs.Option.{option_map};
 ghost use Rattle.std.specs.List.{slice_get};
 ghost use Rattle.block.specs.Layout.{Layout, Limits};
+ghost use Rattle.block.specs.Left.{parts_left};
 
+use crate::parts::Parts;
 use code::CodePart;
 use placement::Placement;
 
@@ -28,6 +30,16 @@ pub trait Block {
     // The part with this number, counted from 0; none past the last.
     fn part(&self, number: usize) -> Option<Self::Part>
         ensures value { option_map Self.Part.CodePart.rule result ≡ slice_get (layout self.now).parts number };
+
+    // All parts, part 0 first.
+    fn parts(&self) -> Parts<'_, Self>
+        ensures value { parts_left layout result ≡ (layout self.now).parts }
+    {
+        Parts {
+            block: self,
+            next: 0,
+        }
+    }
 
     // Where the coded places of all parts go, part 0's first.
     fn pile(&self) -> Self::Pile

@@ -2,7 +2,6 @@
 ghost use Rattle.std.specs.Prelude.{◌≡◌, map};
 ghost use Rattle.code.specs.Parts.{rule_of};
 ghost use Rattle.block.specs.Blocks.{layout_of, pile_placing};
-ghost use Rattle.block.specs.Rows.{one_or_two};
 ghost use Rattle.block.specs.Limits.{block_limits};
 
 use crate::block::Block;
@@ -28,8 +27,7 @@ pub enum EcBlock {
 // The figures of a block.
 #[derive(Clone, Copy)]
 struct Figures {
-    first: EcPart,
-    second: Option<EcPart>,
+    parts: &'static [EcPart],
     pile: EcPile,
     bursts: u8,
     repeats: u8,
@@ -37,8 +35,7 @@ struct Figures {
 
 const FIGURES: [Figures; 5] = [
     Figures {
-        first: EcPart::CcchDown,
-        second: None,
+        parts: &[EcPart::CcchDown],
         pile: EcPile::Straight(Over {
             layer: Straight { bursts: 2 },
             below: KeptList::CcchDown,
@@ -47,8 +44,7 @@ const FIGURES: [Figures; 5] = [
         repeats: 32,
     },
     Figures {
-        first: EcPart::PacchDown,
-        second: None,
+        parts: &[EcPart::PacchDown],
         pile: EcPile::SplitByTwo(Over {
             layer: SplitByTwo,
             below: KeptList::PacchDown,
@@ -57,8 +53,7 @@ const FIGURES: [Figures; 5] = [
         repeats: 16,
     },
     Figures {
-        first: EcPart::PacchUp,
-        second: None,
+        parts: &[EcPart::PacchUp],
         pile: EcPile::Straight(Over {
             layer: Straight { bursts: 4 },
             below: KeptList::PacchUp,
@@ -67,8 +62,7 @@ const FIGURES: [Figures; 5] = [
         repeats: 16,
     },
     Figures {
-        first: EcPart::PacchUp48,
-        second: None,
+        parts: &[EcPart::PacchUp48],
         pile: EcPile::Straight(Over {
             layer: Straight { bursts: 4 },
             below: KeptList::PacchUp48,
@@ -77,8 +71,7 @@ const FIGURES: [Figures; 5] = [
         repeats: 48,
     },
     Figures {
-        first: EcPart::McsHeader,
-        second: Some(EcPart::McsData),
+        parts: &[EcPart::McsHeader, EcPart::McsData],
         pile: EcPile::SplitByTen(Over {
             layer: SplitByTen,
             below: Over {
@@ -96,7 +89,7 @@ const FIGURES: [Figures; 5] = [
 
 impl EcBlock {
     fn figures(self) -> Figures
-        ensures parts { map rule_of (one_or_two result.first result.second) ≡ (layout_of self).parts }
+        ensures parts { map rule_of result.parts.now ≡ (layout_of self).parts }
         ensures pile { pile_placing result.pile ≡ (layout_of self).pile }
         ensures bursts { result.bursts ≡ (layout_of self).bursts }
         ensures repeats { result.repeats ≡ (layout_of self).repeats }
@@ -115,18 +108,11 @@ impl Block for EcBlock {
     ghost limits = { λ b. block_limits b };
 
     fn part_count(&self) -> usize {
-        match self.figures().second {
-            None => 1,
-            Some(_) => 2,
-        }
+        self.figures().parts.len()
     }
 
     fn part(&self, number: usize) -> Option<EcPart> {
-        match number {
-            0 => Some(self.figures().first),
-            1 => self.figures().second,
-            _ => None,
-        }
+        self.figures().parts.get(number).copied()
     }
 
     fn pile(&self) -> EcPile {

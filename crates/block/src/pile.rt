@@ -5,6 +5,7 @@ ghost use Rattle.block.specs.Limits.{pile_sound};
 use placement::{Flags, Interleaver, Over, Place, Placement, SplitByTen, SplitByTwo, Straight};
 use puncturing::KeptList;
 
+// An enum and not a boxed placement, since the codec has no heap.
 #[derive(Clone, Copy)]
 pub enum EcPile {
     // CCCH/D, PACCH/U and PACCH/U/48

@@ -1,9 +1,10 @@
 -- Every message of a block is sent in one way.
-use Rattle.std.proofs.Common.{◌≡◌, ℕ, ◌*◌, ◌<◌, ◌≤◌, List, [], ◌∷◌, length, get_or, take, drop, refl, ap, ◌∙◌, ap₂, ⊎_elim, arith}
-use Rattle.std.specs.List.{range_with_len, AllByRecursion}
-use Rattle.std.proofs.ByRecursion.{All-append, All-drop, All-get_or, All-map, All-take}
-use Rattle.std.proofs.lemmas.List.{get_or_past, length-drop, length-take-le}
-use Rattle.std.proofs.lemmas.Bool.{cases_lt}
+use Rattle.std.proofs.Common.{◌≡◌, ℕ, zero, suc, ◌*◌, ◌<◌, List, [], ◌∷◌, get_or, take, drop, refl, ap, ◌∙◌, ap₂, arith}
+use Rattle.std.specs.List.{range_with_len, sum_by, AllByRecursion}
+use Rattle.std.proofs.ByRecursion.{All-append, All-drop, All-map, All-take}
+use Rattle.std.proofs.lemmas.List.{length-drop, length-take-le}
+use Rattle.std.proofs.lemmas.List.Sums.{sum_by-cons}
+use Rattle.std.proofs.lemmas.List.Elements.{recursion_from_All}
 use Rattle.code.specs.Bits.{Bits, BitString}
 use Rattle.code.specs.Convolution.{coded, coded_word}
 use Rattle.code.specs.Part.{places, Limits as PartLimits}
@@ -12,16 +13,17 @@ use Rattle.parity.proofs.Words.{some_word}
 use Rattle.placement.specs.Placing.{Sound}
 use Rattle.placement.specs.declared.placement.Place.{Place}
 use Rattle.placement.specs.declared.placement.Place.TheVariants.{Coded, Fixed}
-use Rattle.block.specs.Layout.{Layout, Limits, total}
+use Rattle.block.specs.Layout.{Layout, Limits}
 use Rattle.sender.specs.Sent.{BlockMessage, Words, coded_words, shown, shown_all, OneSending}
 
 -- there are words of a message
-some_words : (rs : List Rule) → AllByRecursion PartLimits rs → (m : List ℕ) → BitString (total (λ p. p.message) rs) m → (ws : List (List ℕ)) × Words rs m ws
+some_words : (rs : List Rule) → AllByRecursion PartLimits rs → (m : List ℕ) → BitString (sum_by (λ p. p.message) rs) m → (ws : List (List ℕ)) × Words rs m ws
 some_words [] limits m whole = ([], tt)
 some_words (r ∷ rs) limits m whole =
     let n = r.message in
-    let own = some_word r limits.0 (take n m) (record { long = length-take-le n m (omega (arith, whole.long)); bits = All-take _ n m whole.bits }) in
-    let rest = some_words rs limits.1 (drop n m) (record { long = length-drop n m ∙ omega (arith, whole.long); bits = All-drop _ n m whole.bits }) in
+    let more = sum_by-cons (λ p. p.message) r rs in
+    let own = some_word r limits.0 (take n m) (record { long = length-take-le n m (omega (arith, whole.long, more)); bits = All-take _ n m whole.bits }) in
+    let rest = some_words rs limits.1 (drop n m) (record { long = length-drop n m ∙ omega (arith, whole.long, more); bits = All-drop _ n m whole.bits }) in
     (own.0 ∷ rest.0, (own.1, rest.1))
 
 -- and no others
@@ -33,24 +35,18 @@ same_words (r ∷ rs) m [] vs a b = absurd a
 same_words (r ∷ rs) m (w ∷ ws) [] a b = absurd b
 same_words (r ∷ rs) m (w ∷ ws) (v ∷ vs) a b = ap₂ ◌∷◌ (a.0.only v b.0.is) (same_words rs (drop r.message m) ws vs a.1 b.1)
 
-everywhere : (P : ℕ → Type 0) → ((k : ℕ) → P k) → (ks : List ℕ) → AllByRecursion P ks
-everywhere P h [] = tt
-everywhere P h (k ∷ ks) = (h k, everywhere P h ks)
-
 coded_bits : (rs : List Rule) (ws : List (List ℕ)) → Bits (coded_words rs ws)
 coded_bits [] ws = tt
 coded_bits (r ∷ rs) [] = tt
 coded_bits (r ∷ rs) (w ∷ ws) =
     All-append _ (coded_word r w) (coded_words rs ws)
-    (All-map _ (coded r.ending w) (range_with_len 0 (places r)) (everywhere _ (λ c. omega arith) (range_with_len 0 (places r))))
+    (All-map _ (coded r.ending w) (range_with_len 0 (places r)) (recursion_from_All _ _ (λ k d l. omega arith)))
     (coded_bits rs ws)
 
 bit_at : (xs : List ℕ) → Bits xs → (c : ℕ) → get_or xs c 0 < 2
-bit_at xs bits c =
-    ⊎_elim
-    (λ (h : c < length xs). All-get_or _ xs c 0 h bits)
-    (λ (h : length xs ≤ c). omega (arith, get_or_past xs c 0 h))
-    (cases_lt c (length xs))
+bit_at [] bits c = omega arith
+bit_at (x ∷ xs) bits zero = bits.0
+bit_at (x ∷ xs) bits (suc c) = bit_at xs bits.1 c
 
 shown_bit : (l : Layout) → Sound l.pile → (xs : List ℕ) → Bits xs → (k : ℕ) → shown xs (l.pile.shows k) < 2
 shown_bit l sound xs bits k = go (l.pile.shows k) refl
@@ -72,5 +68,5 @@ one_sending l limits m whole =
       only = λ other s.
           let same = same_words l.parts m ws s.encoded.words found.1 s.encoded.of_message in
           s.laid ∙ ap (shown_all l.pile.shows n) (s.encoded.bits ∙ ap (coded_words l.parts) same);
-      bits = All-map _ (λ k. shown bits (l.pile.shows k)) (range_with_len 0 n) (everywhere _ (shown_bit l limits.pile_sound bits (coded_bits l.parts ws)) (range_with_len 0 n));
+      bits = All-map _ (λ k. shown bits (l.pile.shows k)) (range_with_len 0 n) (recursion_from_All _ _ (λ k d h. shown_bit l limits.pile_sound bits (coded_bits l.parts ws) _));
     }

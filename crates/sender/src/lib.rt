@@ -2,15 +2,17 @@
 #![tactic(auto)]
 
 ghost use Rattle.std.specs.Prelude.{◌≡◌, ◌+◌, ◌*◌, ◌≤◌, length, OnErr, OnOk};
-ghost use Rattle.code.specs.Bits.{Bits, writing_check};
+ghost use Rattle.std.specs.List.{sum_by};
+ghost use Rattle.code.specs.Bits.{BitString, writing_check};
 ghost use Rattle.code.specs.Part.{Message, places};
-ghost use Rattle.block.specs.Layout.{message_length, total};
+ghost use Rattle.block.specs.Layout.{message_length};
+ghost use Rattle.block.specs.Left.{parts_left};
 ghost use Rattle.sender.specs.Sent.{BlockMessage, Encoded, Sent, shown, shown_all};
-ghost use Rattle.sender.specs.Written.{PartEncoded, PartWritten};
+ghost use Rattle.sender.specs.Written.{PartEncoded};
 
 mod laws;
 
-use block::{Block, MOST_CODED};
+use block::{Block, MOST_CODED, Parts};
 use code::{CodePart, LONGEST_WORD, check_writing, encode};
 use fault::ParityFault;
 pub use laws::every_message_is_sent_in_one_way;
@@ -38,14 +40,7 @@ pub fn send<B: Block>(block: &B, message: &[u8], out: &mut [u8]) -> Result<(), P
 fn message_length<B: Block>(block: &B) -> usize
     ensures value { result ≡ message_length (B.layout block.now) }
 {
-    let mut length = 0;
-    for number in 0..block.part_count() {
-        let Some(part) = block.part(number) else {
-            unreachable()
-        };
-        length += part.message_length();
-    }
-    length
+    block.parts().map(|part| part.message_length()).sum()
 }
 
 // Writes the bursts of a message.
@@ -56,39 +51,25 @@ fn write_bursts<B: Block>(block: &B, message: &[u8], out: &mut [u8])
 {
     let pile = block.pile();
     let mut buffer = [0; MOST_CODED];
-    let coded = &mut buffer[0..pile.coded_count()];
-    encode_parts(block, message, coded);
+    let coded = &mut buffer[..pile.coded_count()];
+    encode_parts(block.parts(), message, coded);
     lay(&pile, coded, out);
 }
 
-// Writes the coded bits of a message's parts, each next part's after the last one's.
-fn encode_parts<B: Block>(block: &B, message: &[u8], coded: &mut [u8])
-    requires message { BlockMessage (B.layout block.now) message.now }
-    requires room { length coded.old ≡ total places (B.layout block.now).parts }
-    ensures after { Encoded (B.layout block.now).parts message.now coded.new }
+// Writes the coded bits of the parts that are left, each next part's after the last one's. It calls itself for the parts
+// after the first: of a `&mut` that a loop cuts shorter, nothing is known after the loop.
+#[tactic(auto, using(crate::proofs::Parts::encoded_cons))]
+fn encode_parts<B: Block>(mut parts: Parts<'_, B>, message: &[u8], coded: &mut [u8])
+    requires message { BitString (sum_by (λ p. p.message) (parts_left B.layout parts)) message.now }
+    requires room { length coded.old ≡ sum_by places (parts_left B.layout parts) }
+    ensures after { Encoded (parts_left B.layout parts.entry) message.now coded.new }
 {
-    let mut from = 0;
-    let mut start = 0;
-    for number in 0..block.part_count() {
-        let Some(part) = block.part(number) else {
-            unreachable()
-        };
-        encode_part(&part, message, from, coded, start);
-        from += part.message_length();
-        start += part.coded_count();
+    if let Some(part) = parts.next() {
+        let (own_message, rest_of_message) = message.split_at(part.message_length());
+        let (own_coded, rest_of_coded) = coded.split_at_mut(part.coded_count());
+        encode_message(&part, own_message, own_coded);
+        encode_parts(parts, rest_of_message, rest_of_coded);
     }
-}
-
-// Writes the coded bits of the part whose message begins at `from`; they begin at `start`.
-fn encode_part<C: CodePart>(part: &C, message: &[u8], from: usize, coded: &mut [u8], start: usize)
-    requires binary { Bits message.now }
-    requires whole { from + (C.rule part.now).message ≤ length message.now }
-    requires room { start + places (C.rule part.now) ≤ length coded.old }
-    ensures after { PartWritten (C.rule part.now) message.now from start coded.old coded.new }
-{
-    let until = from + part.message_length();
-    let end = start + part.coded_count();
-    encode_message(part, &message[from..until], &mut coded[start..end]);
 }
 
 // Writes the coded bits of one part's message.
@@ -98,13 +79,9 @@ fn encode_message<C: CodePart>(part: &C, message: &[u8], coded: &mut [u8])
     ensures after { PartEncoded (C.rule part.now) message.now coded.new }
 {
     let mut buffer = [0; LONGEST_WORD];
-    let word = &mut buffer[0..part.word_length()];
-    let Ok(()) = protect(part, message, word) else {
-        unreachable()
-    };
-    let Ok(()) = encode(part, word, coded) else {
-        unreachable()
-    };
+    let word = &mut buffer[..part.word_length()];
+    protect(part, message, word).unwrap();
+    encode(part, word, coded).unwrap();
 }
 
 // Writes what a pile shows of coded bits.

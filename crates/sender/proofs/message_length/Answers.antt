@@ -1,27 +1,23 @@
-use Rattle.std.proofs.Common.{sym, ap, arith}
-use Rattle.std.proofs.lemmas.List.{drop_all}
-use Rattle.code.specs.Part.{places}
-use Rattle.block.specs.Layout.{total}
-use Rattle.sender.proofs.Parts.{some_at, drop_step, message_below_places}
+use Rattle.std.proofs.Common.{rules, tests}
+use Rattle.std.proofs.lemmas.Iterator.{YieldsList-from_map}
+use Rattle.std.proofs.lemmas.Iterator.Consumers.{YieldsList-from_first, YieldsList-at, sum_by_from_yields_List, fits_by_from_yields_list}
+use Rattle.block.specs.Left.{parts_left}
+use Rattle.sender.proofs.Parts.{messages_fit}
 use Rattle.sender.proofs.message_length.Goals as goal
 
-pub unreachable-requires : goal.unreachable-requires
-unreachable-requires g c = some_at (g.B.Block.layout c.args.block.now).parts c.loop-number.number (omega arith) (sym c.in_default.ensures.value)
-
-pub loop-number-preserved : goal.loop-number-preserved
-loop-number-preserved g c =
-    let parts = (g.B.Block.layout c.args.block.now).parts in
-    let rule = g.B.Part.CodePart.rule c.in-Some.part in
-    let first = drop_step parts c.loop-number.number rule (sym c.in-Some.ensures.value) in
-    let messages = ap (total (λ p. p.message)) first in
-    let coded = ap (total places) first in
-    let below = message_below_places rule (g.met.B.Part.CodePart.limits c.in-Some.part) in (
-      omega (arith, messages, c.loop-number.invariant.0, c.message_length-length.ensures.value),
-      omega (arith, coded, below, c.loop-number.invariant.1, c.message_length-length.ensures.value),
-    )
+pub sum-requires-clause-fits : goal.sum-requires-clause-fits
+sum-requires-clause-fits g c =
+    let layout = g.B.Block.layout c.args.block.now in
+    let parts = YieldsList-from_first g.B.Part.CodePart.rule (parts_left g.B.Block.layout) layout.parts c.parts.ensures.value in
+    fits_by_from_yields_list _ layout.parts c.map.result _
+    (YieldsList-from_map _ (λ r. r.message) (YieldsList-at c.map.ensures.source parts) c.map.ensures.closure (λ x r q k. search (rules, tests)))
+    (messages_fit layout (g.met.B.Block.limits c.args.block.now))
 
 pub returns : goal.returns
 returns g c =
-    let parts = (g.B.Block.layout c.args.block.now).parts in
-    let none = ap (total (λ p. p.message)) (drop_all c.loop-number.number parts (omega arith)) in
-    record { value = omega (arith, none, c.loop-number.invariant.0) }
+    let layout = g.B.Block.layout c.args.block.now in
+    let parts = YieldsList-from_first g.B.Part.CodePart.rule (parts_left g.B.Block.layout) layout.parts c.parts.ensures.value in
+    record {
+      value = sum_by_from_yields_List _ layout.parts c.map.result _ c.sum.ensures.ran
+          (YieldsList-from_map _ (λ r. r.message) (YieldsList-at c.map.ensures.source parts) c.map.ensures.closure (λ x r q k. search (rules, tests)));
+    }
