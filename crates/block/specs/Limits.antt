@@ -1,6 +1,7 @@
 -- The piles of the five blocks are placements, and the blocks keep their limits.
 use Rattle.std.specs.Prelude.{◌≡◌, Bool, true, ◌&&◌, ◌==◌, nat_le, refl}
-use Rattle.std.proofs.lemmas.Bool.{and_parts, leb-true, eqb-true}
+use Rattle.std.proofs.Common.{arith}
+use Rattle.std.proofs.lemmas.Bool.Decides.{nat_tests}
 use Rattle.std.specs.List.{AllByRecursion, sum_by}
 use Rattle.code.specs.Part.{places, Limits as PartLimits}
 use Rattle.code.specs.declared.parts.EcPart.TheVariants.{CcchDown as ccch_down, PacchDown as pacch_down, PacchUp as pacch_up, PacchUp48 as pacch_up_48, McsHeader, McsData}
@@ -28,22 +29,16 @@ within l =
     && l.pile.coded == sum_by places l.parts && nat_le l.pile.coded 1024
 
 tested : (l : Layout) → AllByRecursion PartLimits l.parts → Sound l.pile → within l ≡ true → Limits l
-tested l parts pile t =
-    let a = and_parts _ _ t in
-    let b = and_parts _ _ a.0 in
-    let c = and_parts _ _ b.0 in
-    let d = and_parts _ _ c.0 in
-    let e = and_parts _ _ d.0 in
-    record {
-      parts_limits = parts;
-      pile_sound = pile;
-      bursts_least = leb-true _ _ e.0;
-      bursts_most = leb-true _ _ e.1;
-      repeats_least = leb-true _ _ d.1;
-      repeats_most = leb-true _ _ c.1;
-      pile_coded = eqb-true _ _ b.1;
-      coded_most = leb-true _ _ a.1;
-    }
+tested l parts pile t = record {
+  parts_limits = parts;
+  pile_sound = pile;
+  bursts_least = grind (arith, nat_tests);
+  bursts_most = grind (arith, nat_tests);
+  repeats_least = grind (arith, nat_tests);
+  repeats_most = grind (arith, nat_tests);
+  pile_coded = grind (arith, nat_tests);
+  coded_most = grind (arith, nat_tests);
+}
 
 pub block_limits : (b : EcBlock) → Limits (layout_of b)
 block_limits CcchDown = tested _ (table_limits ccch_down, tt) (over_sound _ _ (straight_sound 2) (listed_sound ccch_down_kept)) refl

@@ -2,14 +2,15 @@
 use Rattle.std.proofs.Common.{◌≡◌, ℕ, zero, suc, ◌+◌, ◌<◌, ◌≤◌, Bool, true, false, eqb, ltb, List, [], ◌∷◌, length, get_or, IfOk, Ok, Err, sym, refl, ap, ◌∙◌, zero-add, arith}
 use Rattle.std.proofs.ByRecursion.{All-from_get_or}
 use Rattle.std.proofs.lemmas.Bool.{lt-ltb, le-ltb, ltb-true, eq-eqb, eqb-true, cond-true, cond-false}
+use Rattle.fault.specs.Check.{unless}
 use Rattle.fault.specs.declared.ParityFault.{ParityFault}
 use Rattle.fault.specs.declared.ParityFault.TheVariants.{Length, NotABit, WrongParity}
-use Rattle.code.specs.Bits.{Bits, BitString, Checked, FirstNoBit, unless, length_check, bits_check_from, bits_check, string_check, writing_check}
+use Rattle.code.specs.Bits.{Bits, BitString, Checked, FirstNoBit, length_check, bits_check_from, bits_check, string_check, writing_check}
 
 -- what passes had its test passed, and so had the rest
 unless_passed : (t : Bool) (f : ParityFault) (rest : Checked) → unless t f rest ≡ Ok tt → (t ≡ true) × (rest ≡ Ok tt)
 unless_passed true f rest e = (refl, e)
-unless_passed false f rest e = let z : ◌≡◌ {A = ℕ} 0 1 = cc in absurd (omega arith)
+unless_passed false f rest e = cc
 
 length_passed : (buffer given asked : ℕ) (rest : Checked) → length_check buffer given asked rest ≡ Ok tt → (given ≡ asked) × (rest ≡ Ok tt)
 length_passed buffer given asked rest e =

@@ -1,6 +1,7 @@
 -- Strings of bits, and which byte is refused where a string of bits is asked. A bit in a buffer is a byte, 0 or 1.
-use Rattle.std.specs.Prelude.{◌≡◌, ℕ, ◌+◌, ◌%◌, ◌<◌, ◌≤◌, Bool, cond, List, [], ◌∷◌, length, Ok, Err, Result, ◌==◌, nat_lt, slice_index}
+use Rattle.std.specs.Prelude.{◌≡◌, ℕ, ◌+◌, ◌%◌, ◌<◌, ◌≤◌, List, [], ◌∷◌, length, Ok, Err, Result, ◌==◌, nat_lt, slice_index}
 use Rattle.std.specs.List.{AllByRecursion}
+use Rattle.fault.specs.Check.{unless}
 use Rattle.fault.specs.declared.ParityFault.{ParityFault}
 use Rattle.fault.specs.declared.ParityFault.TheVariants.{Length, NotABit, WrongParity}
 
@@ -21,10 +22,6 @@ sum_word (a ∷ v) (b ∷ w) = (a + b) % 2 ∷ sum_word v w
 -- a check passed, or refused by a fault
 abbrev pub Checked : Type 0
 Checked = Result (Unit {0}) ParityFault
-
--- what the rest says where the test passes, else a refusal
-abbrev pub unless : Bool → ParityFault → Checked → Checked
-unless passes fault rest = cond passes rest (Err fault)
 
 -- a buffer has the length asked, or its number is told
 abbrev pub length_check : ℕ → ℕ → ℕ → Checked → Checked

@@ -1,6 +1,7 @@
 -- The limits of the six parts: a test that computes, and what it means.
 use Rattle.std.specs.Prelude.{◌≡◌, ◌+◌, ◌^◌, Bool, true, ◌&&◌, ◌==◌, nat_le, nat_lt, refl}
-use Rattle.std.proofs.lemmas.Bool.{and_parts, leb-true, ltb-true, eqb-true}
+use Rattle.std.proofs.Common.{arith}
+use Rattle.std.proofs.lemmas.Bool.Decides.{nat_tests}
 use Rattle.code.specs.Part.{Limits}
 use Rattle.code.specs.Parts.{rule_of}
 use Rattle.code.specs.declared.part.Rule.{Rule}
@@ -14,24 +15,17 @@ within_limits r =
     && r.word == r.message + r.generator.degree
 
 tested_limits : (r : Rule) → within_limits r ≡ true → Limits r
-tested_limits r t =
-    let a = and_parts _ _ t in
-    let b = and_parts _ _ a.0 in
-    let c = and_parts _ _ b.0 in
-    let d = and_parts _ _ c.0 in
-    let e = and_parts _ _ d.0 in
-    let f = and_parts _ _ e.0 in
-    record {
-      some_message = leb-true _ _ f.0;
-      word_least = leb-true _ _ f.1;
-      word_most = leb-true _ _ e.1;
-      generator = record {
-        degree_least = leb-true _ _ d.1;
-        degree_most = leb-true _ _ c.1;
-        below_leading = ltb-true _ _ b.1;
-      };
-      message_and_parity = eqb-true _ _ a.1;
-    }
+tested_limits r t = record {
+  some_message = grind (arith, nat_tests);
+  word_least = grind (arith, nat_tests);
+  word_most = grind (arith, nat_tests);
+  generator = record {
+    degree_least = grind (arith, nat_tests);
+    degree_most = grind (arith, nat_tests);
+    below_leading = grind (arith, nat_tests);
+  };
+  message_and_parity = grind (arith, nat_tests);
+}
 
 table_tested : (p : EcPart) → within_limits (rule_of p) ≡ true
 table_tested CcchDown = refl
