@@ -1,20 +1,14 @@
 // A console for the codec: one command a line on standard input, each answered on standard output.
 #![tactic(auto)]
 
-ghost use Rattle.std.specs.Prelude.{◌≡◌, ◌⊎◌, MatchResult};
-ghost use Rattle.ecbox.specs.declared.Misread.TheVariants.{NoMemory, NotBits};
-ghost use Rattle.ecbox.specs.Digits.{Digits, digit_values};
-
 mod header;
 mod text;
 
-use fault::Fault;
+use console::{Console, Misread, Refusal, Unanswered, answer_lines, digits};
 use header::{Stages, take_through};
-use std::alloc::{AllocError, AllocFailed, Global};
-use std::fmt;
-use std::io::{BufRead, BufReader};
-use std::str::from_utf8;
-use text::{refusal_text, stage_text};
+use std::alloc::Global;
+use std::str::SplitAsciiWhitespace;
+use text::Stage;
 
 // What a line asks for.
 #[derive(Drop)]
@@ -23,87 +17,41 @@ enum Command {
     Help,
 }
 
-// Why a line is no command.
-#[derive(Clone, Copy, PartialEq, Eq, Debug)]
-enum Misread {
-    NotText,
-    Unknown,
-    NoBits,
-    NotBits,
-    TooManyWords,
-    NoMemory,
-}
+#[derive(Drop)]
+struct Headers;
 
-impl From<AllocError> for Misread {
-    ghost from_gives = { λ _ r. r ≡ NoMemory };
+impl Console for Headers {
+    type Command = Command;
 
-    fn from(_error: AllocError) -> Misread {
-        Misread::NoMemory
-    }
-}
-
-impl<T: Drop> From<AllocFailed<T>> for Misread {
-    ghost from_gives = { λ _ r. r ≡ NoMemory };
-
-    fn from(_error: AllocFailed<T>) -> Misread {
-        Misread::NoMemory
-    }
-}
-
-impl fmt::Display for Misread {
-    fn fmt<W: fmt::Write>(&self, f: &mut fmt::Formatter<W>) -> fmt::Result {
-        let words = match self {
-            Misread::NotText => "the line is not text",
-            Misread::Unknown => "there is no such command: try help",
-            Misread::NoBits => "the bits are missing",
-            Misread::NotBits => "bits are written 0 and 1",
-            Misread::TooManyWords => "there are more words than the command takes",
-            Misread::NoMemory => "there is no memory for the line",
-        };
-        write!(f, "{words}")
-    }
-}
-
-// The digits of a text as numbers.
-fn digits(heap: Global, text: &str) -> Result<Vec<u8>, Misread>
-    ensures value { MatchResult result (λ v. Digits text.now × (v.items ≡ digit_values text.now)) (λ e. (e ≡ NoMemory) ⊎ ((e ≡ NotBits) × (Digits text.now → ⊥))) }
-{
-    let mut values = Vec::new(heap);
-    let bytes = text.as_bytes();
-    for byte in bytes {
-        if *byte < b'0' || *byte > b'9' {
-            return Err(Misread::NotBits);
+    fn command(
+        heap: Global,
+        name: &str,
+        words: &mut SplitAsciiWhitespace<'_>,
+    ) -> Result<Command, Misread> {
+        match name {
+            "header" => {
+                let bits = words.next().ok_or(Misread::NoBits)?;
+                Ok(Command::Header(digits(heap, bits)?))
+            }
+            "help" => Ok(Command::Help),
+            _ => Err(Misread::Unknown),
         }
-        values.push(*byte - b'0')?;
     }
-    Ok(values)
-}
 
-// The command of a line, if it is not blank.
-fn parse(heap: Global, line: &str) -> Result<Option<Command>, Misread> {
-    let mut words = line.split_ascii_whitespace();
-    let Some(name) = words.next() else {
-        return Ok(None);
-    };
-    let command = match name {
-        "header" => {
-            let Some(bits) = words.next() else {
-                return Err(Misread::NoBits);
-            };
-            Command::Header(digits(heap, bits)?)
+    fn carry_out(&mut self, rt: &HostRuntime, command: Command) -> Result<(), Unanswered> {
+        match command {
+            Command::Header(message) => say_header(rt, message.as_slice())?,
+            Command::Help => say_help(rt)?,
         }
-        "help" => Command::Help,
-        _ => return Err(Misread::Unknown),
-    };
-    match words.next() {
-        None => Ok(Some(command)),
-        Some(_) => Err(Misread::TooManyWords),
+        Ok(())
     }
 }
 
-fn say_stage(rt: &HostRuntime, name: &str, bits: &[u8]) -> anyhow::Result<()> {
-    let line = stage_text(rt.alloc(), name, bits)?;
-    println!(rt; "{line}")?;
+fn say_header(rt: &HostRuntime, message: &[u8]) -> anyhow::Result<()> {
+    match take_through(message) {
+        Ok(stages) => say_stages(rt, message, &stages)?,
+        Err(fault) => println!(rt; "{}", Refusal(fault))?,
+    }
     Ok(())
 }
 
@@ -115,9 +63,9 @@ fn say_stages(rt: &HostRuntime, message: &[u8], stages: &Stages) -> anyhow::Resu
     say_stage(rt, "kept", &stages.kept)
 }
 
-fn say_refusal(rt: &HostRuntime, fault: Fault) -> anyhow::Result<()> {
-    let line = refusal_text(rt.alloc(), fault)?;
-    println!(rt; "{line}")?;
+fn say_stage(rt: &HostRuntime, name: &str, bits: &[u8]) -> anyhow::Result<()> {
+    let stage = Stage { name, bits };
+    println!(rt; "{stage}")?;
     Ok(())
 }
 
@@ -129,43 +77,6 @@ fn say_help(rt: &HostRuntime) -> anyhow::Result<()> {
     Ok(())
 }
 
-fn carry_out(rt: &HostRuntime, command: Command) -> anyhow::Result<()> {
-    match command {
-        Command::Header(message) => match take_through(message.as_slice()) {
-            Ok(stages) => say_stages(rt, message.as_slice(), &stages),
-            Err(fault) => say_refusal(rt, fault),
-        },
-        Command::Help => say_help(rt),
-    }
-}
-
-fn answer(rt: &HostRuntime, number: u64, line: &[u8]) -> anyhow::Result<()> {
-    if line.first() == Some(&b'#') {
-        return Ok(());
-    }
-    let command = match from_utf8(line) {
-        Ok(text) => parse(rt.alloc(), text),
-        Err(_) => Err(Misread::NotText),
-    };
-    match command {
-        Ok(Some(command)) => carry_out(rt, command),
-        Ok(None) => Ok(()),
-        Err(misread) => {
-            println!(rt; "error {number} {misread}")?;
-            Ok(())
-        }
-    }
-}
-
-fn run(rt: &HostRuntime) -> anyhow::Result<()> {
-    let mut number = 0u64;
-    for line in BufReader::new(rt.alloc(), rt.stdin())?.split(rt.alloc(), b'\n') {
-        number = number.saturating_add(1);
-        answer(rt, number, line?.as_slice())?;
-    }
-    Ok(())
-}
-
 fn main(rt: HostRuntime) -> anyhow::Result<()> {
-    run(&rt)
+    answer_lines(&rt, Headers)
 }

@@ -1,77 +1,31 @@
-// What the console writes.
-ghost use Rattle.std.specs.Prelude.{◌≡◌, IfOk, string_bytes};
-ghost use Rattle.ecsend.specs.Line.{bit_code, bit_codes, block_line, burst_line, refusal_line, refused_line, repeat_line, slot_line};
+// What the console answers.
+ghost use Rattle.std.specs.Prelude.{Some};
+ghost use Rattle.ecsend.specs.Line.{answer_line};
 
 use block::EcBlock;
-use fault::{Detail, Fault, Layer};
-use std::alloc::{AllocError, Global};
+use console::Bits;
+use std::fmt;
 
-// A block, by its name.
-pub fn block_text(heap: Global, block: EcBlock) -> Result<String, AllocError>
-    ensures made { IfOk result (λ text. string_bytes text ≡ block_line block) }
-{
-    match block {
-        EcBlock::CcchDown => format!(in heap; "block CCCH/D"),
-        EcBlock::PacchDown => format!(in heap; "block PACCH/D"),
-        EcBlock::PacchUp => format!(in heap; "block PACCH/U"),
-        EcBlock::PacchUp48 => format!(in heap; "block PACCH/U/48"),
-        EcBlock::Mcs => format!(in heap; "block MCS-1'/48"),
+// The answer to a call that is not refused; a message is answered by each of its bursts.
+#[derive(Clone, Copy)]
+pub enum Answer<'a> {
+    Block(EcBlock),
+    Burst { number: usize, places: &'a [u8] },
+    // Where a burst of a repeat goes.
+    Slot { burst: usize, slot: usize },
+    // What a burst of a slot is.
+    Repeat { repeat: usize, burst: usize },
+}
+
+impl fmt::Display for Answer<'_> {
+    ghost output = { λ answer. Some (answer_line answer) };
+
+    fn fmt<W: fmt::Write>(&self, f: &mut fmt::Formatter<W>) -> fmt::Result {
+        match *self {
+            Answer::Block(block) => write!(f, "block {block}"),
+            Answer::Burst { number, places } => write!(f, "burst {number} {}", Bits(places)),
+            Answer::Slot { burst, slot } => write!(f, "burst {burst} slot {slot}"),
+            Answer::Repeat { repeat, burst } => write!(f, "repeat {repeat} burst {burst}"),
+        }
     }
-}
-
-// A burst, with its number.
-pub fn burst_text(heap: Global, number: usize, places: &[u8]) -> Result<String, AllocError>
-    ensures made { IfOk result (λ text. string_bytes text ≡ burst_line number places.now) }
-{
-    let bits = bits_text(heap, places)?;
-    format!(in heap; "burst {number} {bits}")
-}
-
-// Where a burst of a repeat goes.
-pub fn slot_text(heap: Global, burst: usize, slot: usize) -> Result<String, AllocError>
-    ensures made { IfOk result (λ text. string_bytes text ≡ slot_line burst slot) }
-{
-    format!(in heap; "burst {burst} slot {slot}")
-}
-
-// What a burst of a slot is.
-pub fn repeat_text(heap: Global, repeat: usize, burst: usize) -> Result<String, AllocError>
-    ensures made { IfOk result (λ text. string_bytes text ≡ repeat_line repeat burst) }
-{
-    format!(in heap; "repeat {repeat} burst {burst}")
-}
-
-// Bits written 0 and 1, first bit first.
-fn bits_text(heap: Global, bits: &[u8]) -> Result<String, AllocError>
-    ensures made { IfOk result (λ text. string_bytes text ≡ bit_codes bits.now) }
-{
-    let mut text = String::new(heap);
-    for bit in bits {
-        text.push(bit_char(*bit))?;
-    }
-    Ok(text)
-}
-
-fn bit_char(bit: u8) -> char
-    ensures value { result ≡ bit_code bit }
-{
-    if bit == 0 { '0' } else { '1' }
-}
-
-// A refusal in one line: number, layer, detail.
-pub fn refusal_text(heap: Global, fault: Fault) -> Result<String, AllocError>
-    ensures made { IfOk result (λ text. string_bytes text ≡ refusal_line fault) }
-{
-    refused_text(heap, fault.number(), fault.layer(), fault.detail())
-}
-
-fn refused_text(
-    heap: Global,
-    number: u8,
-    layer: Layer,
-    detail: Detail,
-) -> Result<String, AllocError>
-    ensures made { IfOk result (λ text. string_bytes text ≡ refused_line number layer detail) }
-{
-    format!(in heap; "refused {number} {layer} {detail}")
 }

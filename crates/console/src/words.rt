@@ -1,0 +1,39 @@
+// Words of a line as values.
+ghost use Rattle.std.specs.Prelude.{◌≡◌, ◌⊎◌, ◌-◌, MatchResult};
+ghost use Rattle.console.specs.Digits.{Digit, Digits, digit_values};
+ghost use Rattle.console.specs.declared.misread.Misread.TheVariants.{NoMemory, NotBits};
+
+use crate::misread::Misread;
+use std::alloc::Global;
+
+// The digits of a text as numbers.
+pub fn digits(heap: Global, text: &str) -> Result<Vec<u8>, Misread>
+    ensures value { MatchResult result (λ v. Digits text.now × (v.items ≡ digit_values text.now)) (λ e. (e ≡ NoMemory) ⊎ ((e ≡ NotBits) × (Digits text.now → ⊥))) }
+{
+    let mut values = Vec::new(heap);
+    for byte in text.as_bytes() {
+        values.push(digit(*byte)?)?;
+    }
+    Ok(values)
+}
+
+fn digit(byte: u8) -> Result<u8, Misread>
+    ensures value { MatchResult result (λ value. Digit byte × (value ≡ byte - 48)) (λ e. (e ≡ NotBits) × (Digit byte → ⊥)) }
+{
+    match byte {
+        b'0'..=b'9' => Ok(byte - b'0'),
+        _ => Err(Misread::NotBits),
+    }
+}
+
+#[cfg(test)]
+mod tests {
+    use super::*;
+
+    #[test]
+    fn ten_digits(rt: HostRuntime) {
+        let found = digits(rt.alloc(), "0123456789");
+        let values = [0, 1, 2, 3, 4, 5, 6, 7, 8, 9];
+        assert!(rt; matches!(&found, Ok(found) if found.as_slice() == values.as_slice()));
+    }
+}
