@@ -6,6 +6,7 @@ use code::{CodePart, EcPart, encode};
 use fault::Fault;
 use parity::protect;
 use placement::header_place;
+use std::array;
 
 // The word of a header, its coded bits, and those of them that are sent.
 #[derive(Clone, Copy)]
@@ -24,9 +25,15 @@ pub fn take_through(message: &[u8]) -> Result<Stages, Fault>
     protect(&part, message, &mut word)?;
     let mut coded = [0; 72];
     encode(&part, &word, &mut coded)?;
-    let mut kept = [0; 48];
-    write_kept(&coded, &mut kept);
+    let kept = kept_bits(&coded);
     Ok(Stages { word, coded, kept })
+}
+
+// The coded bits that are sent.
+fn kept_bits(coded: &[u8; 72]) -> [u8; 48]
+    ensures value { result ≡ sent_of coded.now }
+{
+    array::from_fn(|index| kept_bit(coded, index))
 }
 
 // Bit `index` of those that are sent.
@@ -37,16 +44,5 @@ fn kept_bit(coded: &[u8], index: usize) -> u8
     match header_place(index) {
         Some(place) => coded[place],
         None => 0,
-    }
-}
-
-// Writes the coded bits that are sent.
-fn write_kept(coded: &[u8], out: &mut [u8])
-    requires whole { length coded.now ≡ 72 }
-    requires room { length out.old ≡ 48 }
-    ensures after { out.new ≡ sent_of coded.now }
-{
-    for (k, bit) in out.iter_mut().enumerate() {
-        *bit = kept_bit(coded, k);
     }
 }

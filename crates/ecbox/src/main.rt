@@ -18,9 +18,9 @@ enum Command {
 }
 
 #[derive(Drop)]
-struct Headers;
+struct HeaderConsole;
 
-impl Console for Headers {
+impl Console for HeaderConsole {
     type Command = Command;
 
     fn command(
@@ -78,5 +78,5 @@ fn say_help(rt: &HostRuntime) -> anyhow::Result<()> {
 }
 
 fn main(rt: HostRuntime) -> anyhow::Result<()> {
-    answer_lines(&rt, Headers)
+    answer_lines(&rt, HeaderConsole)
 }

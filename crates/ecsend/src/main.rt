@@ -17,11 +17,11 @@ use timeslot::Schedule;
 
 // The block that was named last, which calls are for.
 #[derive(Drop)]
-struct Named {
+struct SendingConsole {
     block: Option<EcBlock>,
 }
 
-impl Console for Named {
+impl Console for SendingConsole {
     type Command = Command;
 
     fn command(
@@ -132,5 +132,5 @@ fn say_help(rt: &HostRuntime) -> anyhow::Result<()> {
 }
 
 fn main(rt: HostRuntime) -> anyhow::Result<()> {
-    answer_lines(&rt, Named { block: None })
+    answer_lines(&rt, SendingConsole { block: None })
 }
