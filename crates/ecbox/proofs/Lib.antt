@@ -1,2 +1,1 @@
-pub mod Picked
 pub mod Made
