@@ -60,7 +60,7 @@ pub fn answer_lines<C: Console + Drop>(rt: &HostRuntime, mut console: C) -> anyh
 
 // A line that begins with # is skipped, and so is a blank one.
 fn answer<C: Console>(rt: &HostRuntime, console: &mut C, line: &[u8]) -> Result<(), Unanswered> {
-    if line.first() == Some(&b'#') {
+    if line.starts_with(b"#") {
         return Ok(());
     }
     let text = from_utf8(line).map_err(|_| Misread::NotText)?;

@@ -3,7 +3,7 @@ ghost use Rattle.std.specs.Prelude.{◌≡◌, Some};
 ghost use Rattle.console.specs.Misread.{misread_text};
 ghost use Rattle.console.specs.declared.misread.Misread.TheVariants.{NoMemory};
 
-use std::alloc::{AllocError, AllocFailed};
+use std::alloc::AllocFailed;
 use std::fmt;
 
 #[derive(Clone, Copy, PartialEq, Eq, Debug)]
@@ -19,14 +19,6 @@ pub enum Misread {
     TooManyWords,
     NoBlock,
     NoMemory,
-}
-
-impl From<AllocError> for Misread {
-    ghost from_gives = { λ _ r. r ≡ NoMemory };
-
-    fn from(_error: AllocError) -> Misread {
-        Misread::NoMemory
-    }
 }
 
 impl<T: Drop> From<AllocFailed<T>> for Misread {
