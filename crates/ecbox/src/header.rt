@@ -1,5 +1,5 @@
 // A header on its way to the air: parity, code, puncturing.
-ghost use Rattle.std.specs.Prelude.{◌≡◌, length, slice_index};
+ghost use Rattle.std.specs.Prelude.{◌≡◌, slice_index};
 ghost use Rattle.ecbox.specs.Stages.{StagesOf, sent_of};
 
 use code::{CodePart, EcPart, encode};
@@ -37,8 +37,7 @@ fn kept_bits(coded: &[u8; 72]) -> [u8; 48]
 }
 
 // Bit `index` of those that are sent.
-fn kept_bit(coded: &[u8], index: usize) -> u8
-    requires whole { length coded.now ≡ 72 }
+fn kept_bit(coded: &[u8; 72], index: usize) -> u8
     ensures value { result ≡ slice_index (sent_of coded.now) index }
 {
     match header_place(index) {
