@@ -5,6 +5,7 @@ ghost use Rattle.console.specs.declared.lines.Unanswered.TheVariants.{Ended, Mis
 use crate::misread::Misread;
 use std::alloc::Global;
 use std::io::{BufRead, BufReader};
+use std::iter::successors;
 use std::str::{SplitAsciiWhitespace, from_utf8};
 
 // What a console makes of its lines.
@@ -48,7 +49,8 @@ impl From<anyhow::Error> for Unanswered {
 // Answers the lines of standard input, counted from 1, until it ends.
 pub fn answer_lines<C: Console + Drop>(rt: &HostRuntime, mut console: C) -> anyhow::Result<()> {
     let lines = BufReader::new(rt.alloc(), rt.stdin())?.split(rt.alloc(), b'\n');
-    for (number, line) in (1u64..).zip(lines) {
+    let numbers = successors(Some(1u64), |number| Some(number.saturating_add(1)));
+    for (number, line) in numbers.zip(lines) {
         match answer(rt, &mut console, line?.as_slice()) {
             Ok(()) => {}
             Err(Unanswered::Misread(misread)) => println!(rt; "error {number} {misread}")?,
