@@ -1,4 +1,4 @@
-// The five blocks that are coded here.
+//! The five blocks that are coded here.
 ghost use Rattle.std.specs.Prelude.{◌≡◌, map};
 ghost use Rattle.code.specs.Parts.{rule_of};
 ghost use Rattle.block.specs.Blocks.{layout_of, pile_placing};
@@ -12,15 +12,15 @@ use puncturing::KeptList;
 
 #[derive(Clone, Copy, PartialEq, Eq, Debug)]
 pub enum EcBlock {
-    // CCCH/D
+    /// CCCH/D
     CcchDown,
-    // PACCH/D
+    /// PACCH/D
     PacchDown,
-    // PACCH/U
+    /// PACCH/U
     PacchUp,
-    // PACCH/U/48
+    /// PACCH/U/48
     PacchUp48,
-    // MCS-1'/48
+    /// MCS-1'/48
     Mcs,
 }
 

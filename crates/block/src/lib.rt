@@ -1,4 +1,4 @@
-// Blocks: what is sent in one go, made of code parts and a pile of placements.
+//! Blocks: what is sent in one go, made of code parts and a pile of placements.
 #![tactic(auto)]
 
 mod block;

@@ -1,4 +1,4 @@
-// The names of the five blocks.
+//! The names of the five blocks.
 ghost use Rattle.std.specs.Prelude.{Some};
 ghost use Rattle.block.specs.Names.{block_name, Named};
 
@@ -6,7 +6,7 @@ use crate::blocks::EcBlock;
 use std::fmt;
 use std::str::FromStr;
 
-// A text that is no block's name.
+/// A text that is no block's name.
 #[derive(Clone, Copy, PartialEq, Eq, Debug)]
 pub struct UnknownBlock;
 

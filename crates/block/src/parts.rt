@@ -1,10 +1,10 @@
-// The parts of a block as an iterator.
+//! The parts of a block as an iterator.
 ghost use Rattle.std.specs.Iterator.{YieldsFirstBy, item_count};
 ghost use Rattle.block.specs.Left.{parts_left};
 
 use crate::block::Block;
 
-// The parts of a block that are still to come, in their order.
+/// The parts of a block that are still to come, in their order.
 #[derive(Drop)]
 pub struct Parts<'b, B> {
     pub(crate) block: &'b B,

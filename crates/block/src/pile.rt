@@ -1,18 +1,18 @@
-// The piles of placements of the five blocks.
+//! The piles of placements of the five blocks.
 ghost use Rattle.block.specs.Blocks.{pile_placing};
 ghost use Rattle.block.specs.Limits.{pile_sound};
 
 use placement::{Flags, Interleaver, Over, Place, Placement, SplitByTen, SplitByTwo, Straight};
 use puncturing::KeptList;
 
-// An enum and not a boxed placement, since the codec has no heap.
+/// An enum and not a boxed placement, since the codec has no heap.
 #[derive(Clone, Copy)]
 pub enum EcPile {
-    // CCCH/D, PACCH/U and PACCH/U/48
+    /// CCCH/D, PACCH/U and PACCH/U/48
     Straight(Over<Straight, KeptList>),
-    // PACCH/D
+    /// PACCH/D
     SplitByTwo(Over<SplitByTwo, KeptList>),
-    // MCS-1'/48
+    /// MCS-1'/48
     SplitByTen(Over<SplitByTen, Over<Interleaver, Over<Flags, KeptList>>>),
 }
 

@@ -1,10 +1,10 @@
-// The checks of buffers of bits. Each is refused in the parity layer.
+//! The checks of buffers of bits. Each is refused in the parity layer.
 ghost use Rattle.std.specs.Prelude.{◌≡◌, Ok, OnOk};
 ghost use Rattle.code.specs.Bits.{BitString, FirstNoBit, length_check, string_check, writing_check};
 
 use fault::ParityFault;
 
-// A call that reads a string of bits checks its length, then the bits.
+/// A call that reads a string of bits checks its length, then the bits.
 pub fn check_string(bits: &[u8], asked: usize) -> Result<(), ParityFault>
     ensures refusal { result ≡ string_check bits.now asked }
     ensures passed { OnOk result (BitString asked bits.now) }
@@ -13,8 +13,8 @@ pub fn check_string(bits: &[u8], asked: usize) -> Result<(), ParityFault>
     check_bits(bits)
 }
 
-// A call that writes from a string of bits checks the string's length, then the output's, which is `out` where `room`
-// is asked, then the bits.
+/// A call that writes from a string of bits checks the string's length, then the output's, which is `out` where `room`
+/// is asked, then the bits.
 pub fn check_writing(bits: &[u8], asked: usize, out: usize, room: usize) -> Result<(), ParityFault>
     ensures refusal { result ≡ writing_check bits.now asked out room }
     ensures passed { OnOk result (BitString asked bits.now × (out ≡ room)) }

@@ -1,4 +1,4 @@
-// The convolutional code, for any part and both endings.
+//! The convolutional code, for any part and both endings.
 ghost use Rattle.std.specs.Prelude.{◌≡◌, length, OnErr, OnOk};
 ghost use Rattle.code.specs.Bits.{writing_check};
 ghost use Rattle.code.specs.Convolution.{back, coded, coded_word};
@@ -23,12 +23,13 @@ fn bit_back(ending: Ending, word: &[u8], step: usize, by: usize) -> u8
     word.get(index).copied().unwrap_or(0)
 }
 
-// The coded bit at a place of a word.
+/// The coded bit at a place of a word.
 pub fn coded_bit(ending: Ending, word: &[u8], place: usize) -> u8
     ensures value { result ≡ coded ending word.now place }
 {
     let step = place / 3;
     let bit = |by| u16::from(bit_back(ending, word, step, by));
+    // The sums as the standard writes them, which a table of taps would hide.
     let sum = match place % 3 {
         0 => bit(0) + bit(2) + bit(3) + bit(5) + bit(6),
         1 => bit(0) + bit(1) + bit(2) + bit(3) + bit(6),
@@ -48,7 +49,7 @@ fn write_coded<C: CodePart>(part: &C, word: &[u8], out: &mut [u8])
     }
 }
 
-// Writes the coded bits of a word of a part. It checks the word's length, the output's, then the word's bits.
+/// Writes the coded bits of a word of a part. It checks the word's length, the output's, then the word's bits.
 pub fn encode<C: CodePart>(part: &C, word: &[u8], out: &mut [u8]) -> Result<(), ParityFault>
     ensures refusal { result ≡ writing_check word.now (C.rule part.now).word (length out.old) (places (C.rule part.now)) }
     ensures same { OnErr result (out.new ≡ out.old) }

@@ -1,4 +1,4 @@
-// Code parts, their words, and the convolutional code.
+//! Code parts, their words, and the convolutional code.
 #![tactic(auto)]
 
 mod check;

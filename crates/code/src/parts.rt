@@ -1,4 +1,4 @@
-// The six parts that are coded here.
+//! The six parts that are coded here.
 ghost use Rattle.std.specs.Prelude.{◌≡◌};
 ghost use Rattle.code.specs.Parts.{rule_of};
 ghost use Rattle.code.specs.Limits.{table_limits};
@@ -7,17 +7,17 @@ use crate::part::{CodePart, Ending, Generator, Rule};
 
 #[derive(Clone, Copy, PartialEq, Eq, Debug)]
 pub enum EcPart {
-    // CCCH/D
+    /// CCCH/D
     CcchDown,
-    // PACCH/D
+    /// PACCH/D
     PacchDown,
-    // PACCH/U
+    /// PACCH/U
     PacchUp,
-    // PACCH/U/48
+    /// PACCH/U/48
     PacchUp48,
-    // Part 0 of MCS-1'/48
+    /// Part 0 of MCS-1'/48
     McsHeader,
-    // Part 1 of MCS-1'/48
+    /// Part 1 of MCS-1'/48
     McsData,
 }
 

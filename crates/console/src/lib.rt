@@ -1,4 +1,4 @@
-// What the consoles share: reading lines and words, and writing bits, refusals and errors.
+//! What the consoles share: reading lines and words, and writing bits, refusals and errors.
 #![tactic(auto)]
 
 mod lines;

@@ -1,4 +1,4 @@
-// Lines of standard input, each answered on standard output.
+//! Lines of standard input, each answered on standard output.
 ghost use Rattle.std.specs.Prelude.{◌≡◌};
 ghost use Rattle.console.specs.declared.lines.Unanswered.TheVariants.{Ended, Misread};
 
@@ -8,22 +8,22 @@ use std::io::{BufRead, BufReader};
 use std::iter::successors;
 use std::str::{SplitAsciiWhitespace, from_utf8};
 
-// What a console makes of its lines.
+/// What a console makes of its lines.
 pub trait Console {
     type Command: Drop;
 
-    // The command of a name, which takes its words.
+    /// The command of a name, which takes its words.
     fn command(
         heap: Global,
         name: &str,
         words: &mut SplitAsciiWhitespace<'_>,
     ) -> Result<Self::Command, Misread>;
 
-    // Carries out a command and writes its answer.
+    /// Carries out a command and writes its answer.
     fn carry_out(&mut self, rt: &HostRuntime, command: Self::Command) -> Result<(), Unanswered>;
 }
 
-// Why a line is not answered: it is no command, which is told, or the console ends here.
+/// Why a line is not answered: it is no command, which is told, or the console ends here.
 #[derive(Debug, Drop)]
 pub enum Unanswered {
     Misread(Misread),
@@ -46,7 +46,7 @@ impl From<anyhow::Error> for Unanswered {
     }
 }
 
-// Answers the lines of standard input, counted from 1, until it ends.
+/// Answers the lines of standard input, counted from 1, until it ends.
 pub fn answer_lines<C: Console + Drop>(rt: &HostRuntime, mut console: C) -> anyhow::Result<()> {
     let lines = BufReader::new(rt.alloc(), rt.stdin())?.split(rt.alloc(), b'\n');
     let numbers = successors(Some(1u64), |number| Some(number.saturating_add(1)));

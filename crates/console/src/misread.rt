@@ -1,4 +1,4 @@
-// Why a line is no command.
+//! Why a line is no command.
 ghost use Rattle.std.specs.Prelude.{◌≡◌, Some};
 ghost use Rattle.console.specs.Misread.{misread_text};
 ghost use Rattle.console.specs.declared.misread.Misread.TheVariants.{NoMemory};

@@ -1,11 +1,11 @@
-// Bits and refusals as a console writes them.
+//! Bits and refusals as a console writes them.
 ghost use Rattle.std.specs.Prelude.{◌≡◌, Some};
 ghost use Rattle.console.specs.Line.{bit_code, bit_codes, refusal_line};
 
 use fault::Fault;
 use std::fmt;
 
-// Bits, written 0 and 1, first bit first.
+/// Bits, written 0 and 1, first bit first.
 #[derive(Clone, Copy)]
 pub struct Bits<'a>(pub &'a [u8]);
 
@@ -26,7 +26,7 @@ fn bit_char(bit: u8) -> char
     if bit == 0 { '0' } else { '1' }
 }
 
-// A refusal in one line: number, layer, detail.
+/// A refusal in one line: number, layer, detail.
 #[derive(Clone, Copy)]
 pub struct Refusal(pub Fault);
 

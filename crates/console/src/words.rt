@@ -1,4 +1,4 @@
-// Words of a line as values.
+//! Words of a line as values.
 ghost use Rattle.std.specs.Prelude.{◌≡◌, ◌⊎◌, ◌-◌, MatchResult};
 ghost use Rattle.console.specs.Digits.{Digit, Digits, digit_values};
 ghost use Rattle.console.specs.declared.misread.Misread.TheVariants.{NoMemory, NotBits};
@@ -6,7 +6,7 @@ ghost use Rattle.console.specs.declared.misread.Misread.TheVariants.{NoMemory, N
 use crate::misread::Misread;
 use std::alloc::Global;
 
-// The digits of a text as numbers.
+/// The digits of a text as numbers.
 pub fn digits(heap: Global, text: &str) -> Result<Vec<u8>, Misread>
     ensures value { MatchResult result (λ v. Digits text.now × (v.items ≡ digit_values text.now)) (λ e. (e ≡ NoMemory) ⊎ ((e ≡ NotBits) × (Digits text.now → ⊥))) }
 {

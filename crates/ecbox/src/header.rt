@@ -1,4 +1,4 @@
-// A header on its way to the air: parity, code, puncturing.
+//! A header on its way to the air: parity, code, puncturing.
 ghost use Rattle.std.specs.Prelude.{◌≡◌, slice_index};
 ghost use Rattle.ecbox.specs.Stages.{StagesOf, sent_of};
 
@@ -8,7 +8,7 @@ use parity::protect;
 use placement::header_place;
 use std::array;
 
-// The word of a header, its coded bits, and those of them that are sent.
+/// The word of a header, its coded bits, and those of them that are sent.
 #[derive(Clone, Copy)]
 pub struct Stages {
     pub word: [u8; 24],
@@ -16,7 +16,7 @@ pub struct Stages {
     pub kept: [u8; 48],
 }
 
-// Takes the bits of a header through all stages.
+/// Takes the bits of a header through all stages.
 pub fn take_through(message: &[u8]) -> Result<Stages, Fault>
     ensures value { StagesOf message.now result }
 {

@@ -1,4 +1,4 @@
-// A console for the codec: one command a line on standard input, each answered on standard output.
+//! A console for the codec: one command a line on standard input, each answered on standard output.
 #![tactic(auto)]
 
 mod header;

@@ -1,11 +1,11 @@
-// Stages as the console writes them.
+//! Stages as the console writes them.
 ghost use Rattle.std.specs.Prelude.{Some};
 ghost use Rattle.ecbox.specs.Line.{stage_line};
 
 use console::Bits;
 use std::fmt;
 
-// The bits of a stage.
+/// The bits of a stage.
 #[derive(Clone, Copy)]
 pub struct Stage<'a> {
     pub name: &'a str,

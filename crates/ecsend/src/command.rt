@@ -1,4 +1,4 @@
-// Commands, and their words as values.
+//! Commands, and their words as values.
 ghost use Rattle.std.specs.Prelude.{◌≡◌, ℕ, MatchResult};
 ghost use Rattle.console.specs.declared.misread.Misread.TheVariants.{NotANumber};
 ghost use Rattle.ecsend.specs.Number.{Writes};
@@ -8,7 +8,7 @@ use console::{Misread, digits};
 use std::alloc::Global;
 use std::str::SplitAsciiWhitespace;
 
-// What a line asks for.
+/// What a line asks for.
 #[derive(Drop)]
 pub enum Command {
     Block(EcBlock),
@@ -16,7 +16,7 @@ pub enum Command {
     Help,
 }
 
-// A call of the codec, for the block that was named.
+/// A call of the codec, for the block that was named.
 #[derive(Drop)]
 pub enum Call {
     Send(Vec<u8>),

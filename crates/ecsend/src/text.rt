@@ -1,4 +1,4 @@
-// What the console answers.
+//! What the console answers.
 ghost use Rattle.std.specs.Prelude.{Some};
 ghost use Rattle.ecsend.specs.Line.{answer_line};
 
@@ -6,14 +6,14 @@ use block::EcBlock;
 use console::Bits;
 use std::fmt;
 
-// The answer to a call that is not refused; a message is answered by each of its bursts.
+/// The answer to a call that is not refused; a message is answered by each of its bursts.
 #[derive(Clone, Copy)]
 pub enum Answer<'a> {
     Block(EcBlock),
     Burst { number: usize, places: &'a [u8] },
-    // Where a burst of a repeat goes.
+    /// Where a burst of a repeat goes.
     Slot { burst: usize, slot: usize },
-    // What a burst of a slot is.
+    /// What a burst of a slot is.
     Repeat { repeat: usize, burst: usize },
 }
 

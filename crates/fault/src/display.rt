@@ -1,4 +1,4 @@
-// What an operator reads of a fault.
+//! What an operator reads of a fault.
 ghost use Rattle.std.specs.Prelude.{Some};
 ghost use Rattle.fault.specs.Shown.{layer_text, detail_text, value_text, parity_text, placement_text, receiver_text, timing_text, sentence};
 

@@ -1,4 +1,4 @@
-// Why a call is refused: one enum for each layer, and `Fault` over them. A fault tells a number, its layer and a detail.
+//! Why a call is refused: one enum for each layer, and `Fault` over them. A fault tells a number, its layer and a detail.
 #![tactic(auto)]
 
 ghost use Rattle.std.specs.Prelude.{◌≡◌};
@@ -7,7 +7,7 @@ ghost use Rattle.fault.specs.declared.Fault.TheVariants.{Value, Parity, Placemen
 
 mod display;
 
-// The layer that refused.
+/// The layer that refused.
 #[derive(Clone, Copy, PartialEq, Eq, Debug)]
 pub enum Layer {
     Value,
@@ -17,32 +17,32 @@ pub enum Layer {
     Timing,
 }
 
-// What stands beside a fault's number: one number, or for wrong parity the part and the least cost.
+/// What stands beside a fault's number: one number, or for wrong parity the part and the least cost.
 #[derive(Clone, Copy, PartialEq, Eq, Debug)]
 pub enum Detail {
     Number(usize),
     PartAndCost { part: usize, cost: u32 },
 }
 
-// Weighing samples. Buffers are numbered from 1 in the order in which a call checks them.
+/// Weighing samples. Buffers are numbered from 1 in the order in which a call checks them.
 #[derive(Clone, Copy, PartialEq, Eq, Debug)]
 pub enum ValueFault {
     Length { buffer: u8 },
-    // The weight or the amplitude is not finite or is below zero.
+    /// The weight or the amplitude is not finite or is below zero.
     Weight,
-    // The noise is not both finite and above zero.
+    /// The noise is not both finite and above zero.
     Noise,
-    // Amplitude divided by noise is not finite.
+    /// Amplitude divided by noise is not finite.
     Quotient,
 }
 
-// Sending, and the parity of a word that was found.
+/// Sending, and the parity of a word that was found.
 #[derive(Clone, Copy, PartialEq, Eq, Debug)]
 pub enum ParityFault {
     Length { buffer: u8 },
-    // The first byte that is neither 0 nor 1.
+    /// The first byte that is neither 0 nor 1.
     NotABit { index: usize },
-    // The word found has wrong parity; no word costs less than `cost`.
+    /// The word found has wrong parity; no word costs less than `cost`.
     WrongParity { part: usize, cost: u32 },
 }
 
@@ -54,20 +54,20 @@ pub enum PlacementFault {
 #[derive(Clone, Copy, PartialEq, Eq, Debug)]
 pub enum ReceiverFault {
     Length { buffer: u8 },
-    // The burst was already accepted as many times as the block allows.
+    /// The burst was already accepted as many times as the block allows.
     NoMoreRepeats { burst: usize },
     NothingHeard,
     NoSuchPart { part: usize },
 }
 
-// Repeats on timeslots.
+/// Repeats on timeslots.
 #[derive(Clone, Copy, PartialEq, Eq, Debug)]
 pub enum TimingFault {
-    // The block is not sent that many times in all.
+    /// The block is not sent that many times in all.
     Total,
-    // No repeat of that number.
+    /// No repeat of that number.
     Repeat,
-    // Not so many slots, or no slot of that number.
+    /// Not so many slots, or no slot of that number.
     Slots,
 }
 
@@ -80,6 +80,7 @@ pub enum Fault {
     Timing(TimingFault),
 }
 
+// By hand, since `from_gives` tells a proof which case a `?` makes; a derived `From` tells nothing.
 impl From<ValueFault> for Fault {
     ghost from_gives = { λ f r. r ≡ Value f };
 

@@ -1,4 +1,4 @@
-// Division of polynomials over GF(2), bit by bit.
+//! Division of polynomials over GF(2), bit by bit.
 ghost use Rattle.std.specs.Prelude.{◌≡◌, ℕ, ◌^◌, ◌<◌, fold, replicate, bit_xor};
 ghost use Rattle.code.specs.Bits.{Bits};
 ghost use Rattle.code.specs.Part.{Sound};
@@ -7,7 +7,7 @@ ghost use Rattle.parity.specs.Register.{next};
 
 use code::Generator;
 
-// The register of a division: the polynomial that divides, and what is left of the bits taken so far.
+/// The register of a division: the polynomial that divides, and what is left of the bits taken so far.
 #[derive(Drop)]
 pub struct Register {
     generator: Generator,
@@ -17,7 +17,7 @@ pub struct Register {
 }
 
 impl Register {
-    // The register of a division by the generator, once it has taken the bits.
+    /// The register of a division by the generator, once it has taken the bits.
     pub fn after(generator: Generator, bits: &[u8]) -> Self
         requires sound { Sound generator }
         requires binary { Bits bits.now }
@@ -47,7 +47,7 @@ impl Register {
         }
     }
 
-    // Takes a zero for each power below the polynomial's degree.
+    /// Takes a zero for each power below the polynomial's degree.
     pub fn take_zeros(&mut self)
         ensures divisor { self.new.generator ≡ self.old.generator }
         ensures left { self.new.left ≡ fold (next self.old.generator) self.old.left (replicate self.old.generator.degree 0) }
@@ -57,7 +57,7 @@ impl Register {
         }
     }
 
-    // What must be added to what is left before every coefficient is 1.
+    /// What must be added to what is left before every coefficient is 1.
     #[tactic(auto, using(std::proofs::lemmas::Nat::xor_lt))]
     pub fn lacks(&self) -> u32
         ensures bound { result < 2 ^ self.now.generator.degree }

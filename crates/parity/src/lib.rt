@@ -1,4 +1,4 @@
-// Parity by division of polynomials over GF(2), for any code part.
+//! Parity by division of polynomials over GF(2), for any code part.
 #![tactic(auto)]
 
 ghost use Rattle.std.specs.Prelude.{◌≡◌, ◌^◌, ◌<◌, ◌≤◌, ◌++◌, length, OnErr, OnOk};
@@ -15,7 +15,7 @@ use division::Register;
 use fault::ParityFault;
 pub use laws::{division_leaves_one_remainder, every_message_has_one_word};
 
-// Writes the parity bits of a message of a part. It checks the message's length, the output's, then the message's bits.
+/// Writes the parity bits of a message of a part. It checks the message's length, the output's, then the message's bits.
 pub fn parity<C: CodePart>(part: &C, message: &[u8], out: &mut [u8]) -> Result<(), ParityFault>
     ensures refusal { result ≡ writing_check message.now (C.rule part.now).message (length out.old) (C.rule part.now).generator.degree }
     ensures same { OnErr result (out.new ≡ out.old) }
@@ -31,8 +31,8 @@ pub fn parity<C: CodePart>(part: &C, message: &[u8], out: &mut [u8]) -> Result<(
     Ok(())
 }
 
-// Writes the word of a message: the message, then its parity. It checks the message's length, the word's, then the
-// message's bits.
+/// Writes the word of a message: the message, then its parity. It checks the message's length, the word's, then the
+/// message's bits.
 pub fn protect<C: CodePart>(part: &C, message: &[u8], word: &mut [u8]) -> Result<(), ParityFault>
     ensures refusal { result ≡ writing_check message.now (C.rule part.now).message (length word.old) (C.rule part.now).word }
     ensures same { OnErr result (word.new ≡ word.old) }
@@ -50,7 +50,7 @@ pub fn protect<C: CodePart>(part: &C, message: &[u8], word: &mut [u8]) -> Result
     Ok(())
 }
 
-// Whether the parity of a word of a part is right. It checks the word's length, then its bits.
+/// Whether the parity of a word of a part is right. It checks the word's length, then its bits.
 pub fn parity_right<C: CodePart>(part: &C, word: &[u8]) -> Result<bool, ParityFault>
     ensures value { Judged (C.rule part.now) word.now result }
 {

@@ -1,4 +1,4 @@
-// The interleaver.
+//! The interleaver.
 ghost use Rattle.std.specs.Prelude.{◌≡◌, ℕ, ◌<◌};
 ghost use Rattle.placement.specs.Layers.{spot, moved, interleaved, Permutation};
 ghost use Rattle.placement.specs.declared.placement.Place.TheVariants.{Coded};
@@ -6,7 +6,7 @@ ghost use Rattle.placement.specs.Sounds.{interleaved_sound};
 
 use crate::placement::{Place, Placement, up_to};
 
-// Spreads 424 entries over four groups of 106 places.
+/// Spreads 424 entries over four groups of 106 places.
 #[derive(Clone, Copy)]
 pub struct Interleaver;
 
@@ -33,7 +33,7 @@ impl Placement for Interleaver {
     }
 }
 
-// No two entries go to one place, and no place is left out.
+/// No two entries go to one place, and no place is left out.
 pub fn interleaver_is_a_permutation()
     ensures law { Permutation }
 {}

@@ -1,11 +1,11 @@
-// The layers that keep entries in order. A layer is a placement whose coded places are the entries below it.
+//! The layers that keep entries in order. A layer is a placement whose coded places are the entries below it.
 ghost use Rattle.std.specs.Prelude.{◌≡◌};
 ghost use Rattle.placement.specs.Layers.{straight, split_by_two, split_by_ten, before, around_flags, flagged};
 ghost use Rattle.placement.specs.Sounds.{straight_sound, split_by_two_sound, split_by_ten_sound, flagged_sound};
 
 use crate::placement::{BURST, Place, Placement, by_burst, up_to};
 
-// Every burst shows the entries from the first on.
+/// Every burst shows the entries from the first on.
 #[derive(Clone, Copy)]
 pub struct Straight {
     pub bursts: u8,
@@ -29,7 +29,7 @@ impl Placement for Straight {
     }
 }
 
-// Every one of four bursts shows the entries from the first on, around two flags of its own.
+/// Every one of four bursts shows the entries from the first on, around two flags of its own.
 #[derive(Clone, Copy)]
 pub struct SplitByTwo;
 
@@ -59,7 +59,7 @@ impl Placement for SplitByTwo {
     }
 }
 
-// Each of four bursts shows 106 entries of its own, around ten zeros.
+/// Each of four bursts shows 106 entries of its own, around ten zeros.
 #[derive(Clone, Copy)]
 pub struct SplitByTen;
 
@@ -85,7 +85,7 @@ impl Placement for SplitByTen {
     }
 }
 
-// Four stealing flags, all 0, among 420 entries.
+/// Four stealing flags, all 0, among 420 entries.
 #[derive(Clone, Copy)]
 pub struct Flags;
 

@@ -1,4 +1,4 @@
-// Where coded bits go: placements, and the layers that are put over them.
+//! Where coded bits go: placements, and the layers that are put over them.
 #![tactic(auto)]
 
 mod interleaver;

@@ -1,10 +1,10 @@
-// A layer over any placement.
+//! A layer over any placement.
 ghost use Rattle.placement.specs.Placing.{over};
 ghost use Rattle.placement.specs.Sounds.{over_sound};
 
 use crate::placement::{Place, Placement};
 
-// Where the layer names a coded place, the placement below shows what stands at its outer place of that number.
+/// Where the layer names a coded place, the placement below shows what stands at its outer place of that number.
 #[derive(Clone, Copy)]
 pub struct Over<L, P> {
     pub layer: L,

@@ -1,22 +1,22 @@
-// What a placement is.
+//! What a placement is.
 ghost use Rattle.std.specs.Prelude.{◌≡◌, ◌*◌, ◌/◌, ◌%◌, ◌<◌, ◌≤◌};
 ghost use Rattle.placement.specs.Placing.{Placing, Sound};
 ghost use Rattle.placement.specs.declared.placement.Place.TheVariants.{Fixed};
 
-// The places of a burst.
+/// The places of a burst.
 pub const BURST: usize = 116;
 
-// What stands at an outer place.
+/// What stands at an outer place.
 #[derive(Clone, Copy, PartialEq, Eq, Debug)]
 pub enum Place {
-    // The coded bit of this number.
+    /// The coded bit of this number.
     Coded(usize),
-    // This bit, whatever the message.
+    /// This bit, whatever the message.
     Fixed(u8),
 }
 
-// Which coded place or fixed bit each outer place shows. Past the outer count that is a fixed 0, so that no question is
-// refused. The answers are those of `placing`, so that equal questions are answered alike.
+/// Which coded place or fixed bit each outer place shows. Past the outer count that is a fixed 0, so that no question is
+/// refused. The answers are those of `placing`, so that equal questions are answered alike.
 pub trait Placement {
     ghost placing: { Self → Placing };
 

@@ -1,4 +1,4 @@
-// Puncturing: the coded places that are sent, as the bottom of a pile of placements.
+//! Puncturing: the coded places that are sent, as the bottom of a pile of placements.
 #![tactic(auto)]
 
 ghost use Rattle.std.specs.Prelude.{◌≡◌};
@@ -11,18 +11,18 @@ mod places;
 use placement::{Place, Placement};
 use places::{even_place, mcs_place};
 
-// The kept places of a block, in order.
+/// The kept places of a block, in order.
 #[derive(Clone, Copy, PartialEq, Eq, Debug)]
 pub enum KeptList {
-    // CCCH/D
+    /// CCCH/D
     CcchDown,
-    // PACCH/D
+    /// PACCH/D
     PacchDown,
-    // PACCH/U
+    /// PACCH/U
     PacchUp,
-    // PACCH/U/48
+    /// PACCH/U/48
     PacchUp48,
-    // MCS-1'/48: the header's, then the data's
+    /// MCS-1'/48: the header's, then the data's
     Mcs,
 }
 
@@ -56,7 +56,7 @@ const FIGURES: [Figures; 5] = [
     },
 ];
 
-// A kept list is what is not dropped, in order, and each of ours has its count.
+/// A kept list is what is not dropped, in order, and each of ours has its count.
 pub fn kept_is_what_is_not_dropped()
     ensures law { KeptLists }
 {}

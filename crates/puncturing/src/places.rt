@@ -1,4 +1,4 @@
-// Closed forms of the kept places.
+//! Closed forms of the kept places.
 ghost use Rattle.std.specs.Prelude.{◌≡◌, ◌<◌, ◌≤◌};
 ghost use Rattle.puncturing.specs.Closed.{even_place, residue_place, data_place, mcs_place};
 

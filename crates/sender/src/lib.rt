@@ -1,4 +1,4 @@
-// Sending: the bursts of a message, for any block.
+//! Sending: the bursts of a message, for any block.
 #![tactic(auto)]
 
 ghost use Rattle.std.specs.Prelude.{◌≡◌, ◌+◌, ◌*◌, ◌≤◌, length, OnErr, OnOk};
@@ -19,8 +19,8 @@ pub use laws::every_message_is_sent_in_one_way;
 use parity::protect;
 use placement::{BURST, Place, Placement};
 
-// Writes the bursts of a message, burst 0 first, 116 bytes each. It checks the message's length, the output's, then the
-// message's bits.
+/// Writes the bursts of a message, burst 0 first, 116 bytes each. It checks the message's length, the output's, then the
+/// message's bits.
 pub fn send<B: Block>(block: &B, message: &[u8], out: &mut [u8]) -> Result<(), ParityFault>
     ensures refusal { result ≡ writing_check message.now (message_length (B.layout block.now)) (length out.old) (116 * (B.layout block.now).bursts) }
     ensures same { OnErr result (out.new ≡ out.old) }
@@ -50,6 +50,7 @@ fn write_bursts<B: Block>(block: &B, message: &[u8], out: &mut [u8])
     ensures after { Sent (B.layout block.now) message.now out.new }
 {
     let pile = block.pile();
+    // As long as any block needs, since there is no heap.
     let mut buffer = [0; MOST_CODED];
     let coded = &mut buffer[..pile.coded_count()];
     encode_parts(block.parts(), message, coded);
@@ -78,6 +79,7 @@ fn encode_message<C: CodePart>(part: &C, message: &[u8], coded: &mut [u8])
     requires room { length coded.old ≡ places (C.rule part.now) }
     ensures after { PartEncoded (C.rule part.now) message.now coded.new }
 {
+    // As long as any part needs, since there is no heap.
     let mut buffer = [0; LONGEST_WORD];
     let word = &mut buffer[..part.word_length()];
     protect(part, message, word).unwrap();

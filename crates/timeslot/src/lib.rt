@@ -1,4 +1,4 @@
-// Timeslots: which burst of which slot carries a burst of a repeat of a block, and back.
+//! Timeslots: which burst of which slot carries a burst of a repeat of a block, and back.
 #![tactic(auto)]
 
 ghost use Rattle.std.specs.Prelude.{◌≡◌, ◌<◌, IfOk, Ok};
@@ -9,18 +9,18 @@ ghost use Rattle.timeslot.specs.Timeslot.{total_permitted, slots_permitted, slot
 use block::{Block, EcBlock};
 use fault::{Fault, PlacementFault, TimingFault};
 
-// How a block is sent: how many times in all, and on how many slots side by side.
+/// How a block is sent: how many times in all, and on how many slots side by side.
 #[derive(Clone, Copy, PartialEq, Eq, Debug)]
 pub struct Schedule {
     pub block: EcBlock,
     pub total: usize,
-    // CCCH/D, which stays on one slot, does not look at this.
+    /// CCCH/D, which stays on one slot, does not look at this.
     pub slots: usize,
 }
 
 impl Schedule {
-    // Where a burst of a repeat goes: the burst of its slot, and the slot. It checks the total, the repeat, the slots,
-    // then the burst.
+    /// Where a burst of a repeat goes: the burst of its slot, and the slot. It checks the total, the repeat, the slots,
+    /// then the burst.
     pub fn to_timeslot(self, repeat: usize, burst: usize) -> Result<(usize, usize), Fault>
         ensures value { result ≡ timeslot self.block self.total repeat self.slots burst }
         ensures back { IfOk result (λ t. repeat_at self.block self.total self.slots t.0 t.1 ≡ Ok (repeat, burst)) }
@@ -33,8 +33,8 @@ impl Schedule {
         Ok((burst + bursts * (repeat / slots), repeat % slots))
     }
 
-    // What stands at a burst of a slot: the repeat, and the burst of the block. It checks the total, the slots, the
-    // slot, then the repeat that it finds.
+    /// What stands at a burst of a slot: the repeat, and the burst of the block. It checks the total, the slots, the
+    /// slot, then the repeat that it finds.
     pub fn from_timeslot(self, burst: usize, slot: usize) -> Result<(usize, usize), Fault>
         ensures value { result ≡ repeat_at self.block self.total self.slots burst slot }
         ensures back { IfOk result (λ t. timeslot self.block self.total t.0 self.slots t.1 ≡ Ok (burst, slot)) }
