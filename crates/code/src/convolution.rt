@@ -12,15 +12,15 @@ use fault::ParityFault;
 fn bit_back(ending: Ending, word: &[u8], step: usize, by: usize) -> u8
     ensures value { result ≡ back ending word.now step by }
 {
-    let index = if step >= by {
-        step - by
-    } else {
-        match ending {
-            Ending::TailBiting => word.len().saturating_sub(by - step),
-            Ending::ZeroTail => return 0,
-        }
+    let index = match ending {
+        _ if by <= step => Some(step - by),
+        Ending::TailBiting => Some(word.len().saturating_sub(by - step)),
+        Ending::ZeroTail => None,
     };
-    word.get(index).copied().unwrap_or(0)
+    index
+        .and_then(|index| word.get(index))
+        .copied()
+        .unwrap_or(0)
 }
 
 /// The coded bit at a place of a word.

@@ -1,8 +1,10 @@
 //! Lines of standard input, each answered on standard output.
 ghost use Rattle.std.specs.Prelude.{◌≡◌};
-ghost use Rattle.console.specs.declared.lines.Unanswered.TheVariants.{Ended, Misread};
+ghost use Rattle.console.specs.declared.lines.Unanswered.TheVariants.{Ended, Misread, Refused};
 
 use crate::misread::Misread;
+use crate::shown::Refusal;
+use fault::Fault;
 use std::alloc::Global;
 use std::io::{BufRead, BufReader};
 use std::iter::successors;
@@ -27,6 +29,8 @@ pub trait Console {
 #[derive(Debug, Drop)]
 pub enum Unanswered {
     Misread(Misread),
+    /// The codec refused the call.
+    Refused(Fault),
     Ended(anyhow::Error),
 }
 
@@ -35,6 +39,14 @@ impl From<Misread> for Unanswered {
 
     fn from(misread: Misread) -> Unanswered {
         Unanswered::Misread(misread)
+    }
+}
+
+impl From<Fault> for Unanswered {
+    ghost from_gives = { λ f r. r ≡ Refused f };
+
+    fn from(fault: Fault) -> Unanswered {
+        Unanswered::Refused(fault)
     }
 }
 
@@ -54,6 +66,7 @@ pub fn answer_lines<C: Console + Drop>(rt: &HostRuntime, mut console: C) -> anyh
         match answer(rt, &mut console, line?.as_slice()) {
             Ok(()) => {}
             Err(Unanswered::Misread(misread)) => println!(rt; "error {number} {misread}")?,
+            Err(Unanswered::Refused(fault)) => println!(rt; "{}", Refusal(fault))?,
             Err(Unanswered::Ended(error)) => return Err(error),
         }
     }

@@ -40,8 +40,5 @@ fn kept_bits(coded: &[u8; 72]) -> [u8; 48]
 fn kept_bit(coded: &[u8; 72], index: usize) -> u8
     ensures value { result ≡ slice_index (sent_of coded.now) index }
 {
-    match header_place(index) {
-        Some(place) => coded[place],
-        None => 0,
-    }
+    header_place(index).map_or(0, |place| coded[place])
 }

@@ -4,7 +4,7 @@
 mod header;
 mod text;
 
-use console::{Console, Misread, Refusal, Unanswered, answer_lines, digits};
+use console::{Console, Misread, Unanswered, answer_lines, digits};
 use header::{Stages, take_through};
 use std::alloc::Global;
 use std::str::SplitAsciiWhitespace;
@@ -40,19 +40,14 @@ impl Console for HeaderConsole {
 
     fn carry_out(&mut self, rt: &HostRuntime, command: Command) -> Result<(), Unanswered> {
         match command {
-            Command::Header(message) => say_header(rt, message.as_slice())?,
+            Command::Header(message) => {
+                let stages = take_through(message.as_slice())?;
+                say_stages(rt, message.as_slice(), &stages)?;
+            }
             Command::Help => say_help(rt)?,
         }
         Ok(())
     }
-}
-
-fn say_header(rt: &HostRuntime, message: &[u8]) -> anyhow::Result<()> {
-    match take_through(message) {
-        Ok(stages) => say_stages(rt, message, &stages)?,
-        Err(fault) => println!(rt; "{}", Refusal(fault))?,
-    }
-    Ok(())
 }
 
 fn say_stages(rt: &HostRuntime, message: &[u8], stages: &Stages) -> anyhow::Result<()> {

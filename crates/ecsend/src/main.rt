@@ -6,7 +6,7 @@ mod text;
 
 use block::{Block, EcBlock};
 use command::{Call, Command, bits_word, block_word, number_word};
-use console::{Console, Misread, Refusal, Unanswered, answer_lines};
+use console::{Console, Misread, Unanswered, answer_lines};
 use fault::Fault;
 use placement::BURST;
 use sender::send;
@@ -53,7 +53,7 @@ impl Console for SendingConsole {
         match command {
             Command::Block(block) => {
                 self.block = Some(block);
-                say(rt, Ok(Answer::Block(block)))?;
+                say(rt, Answer::Block(block))?;
             }
             Command::Call(call) => make(rt, self.block.ok_or(Misread::NoBlock)?, call)?,
             Command::Help => say_help(rt)?,
@@ -63,22 +63,22 @@ impl Console for SendingConsole {
 }
 
 // Makes a call on a block.
-fn make(rt: &HostRuntime, block: EcBlock, call: Call) -> anyhow::Result<()> {
+fn make(rt: &HostRuntime, block: EcBlock, call: Call) -> Result<(), Unanswered> {
+    let schedule = |total, slots| Schedule {
+        block,
+        total,
+        slots,
+    };
     match call {
-        Call::Send(message) => say_bursts(rt, block, message.as_slice()),
+        Call::Send(message) => say_bursts(rt, block, message.as_slice())?,
         Call::Slot {
             total,
             slots,
             repeat,
             burst,
         } => {
-            let schedule = Schedule {
-                block,
-                total,
-                slots,
-            };
-            let found = schedule.to_timeslot(repeat, burst);
-            say(rt, found.map(|(burst, slot)| Answer::Slot { burst, slot }))
+            let (burst, slot) = schedule(total, slots).to_timeslot(repeat, burst)?;
+            say(rt, Answer::Slot { burst, slot })?;
         }
         Call::Repeat {
             total,
@@ -86,37 +86,27 @@ fn make(rt: &HostRuntime, block: EcBlock, call: Call) -> anyhow::Result<()> {
             burst,
             slot,
         } => {
-            let schedule = Schedule {
-                block,
-                total,
-                slots,
-            };
-            let found = schedule.from_timeslot(burst, slot);
-            say(
-                rt,
-                found.map(|(repeat, burst)| Answer::Repeat { repeat, burst }),
-            )
+            let (repeat, burst) = schedule(total, slots).from_timeslot(burst, slot)?;
+            say(rt, Answer::Repeat { repeat, burst })?;
         }
-    }
-}
-
-// Sends a message and writes its bursts.
-fn say_bursts(rt: &HostRuntime, block: EcBlock, message: &[u8]) -> anyhow::Result<()> {
-    let mut bursts = vec![in rt.alloc(); 0; BURST * block.burst_count()]?;
-    if let Err(fault) = send(&block, message, bursts.as_mut_slice()) {
-        return say(rt, Err(Fault::from(fault)));
-    }
-    for (number, places) in bursts.chunks(BURST).enumerate() {
-        say(rt, Ok(Answer::Burst { number, places }))?;
     }
     Ok(())
 }
 
-fn say(rt: &HostRuntime, answer: Result<Answer<'_>, Fault>) -> anyhow::Result<()> {
-    match answer {
-        Ok(answer) => println!(rt; "{answer}")?,
-        Err(fault) => println!(rt; "{}", Refusal(fault))?,
+// Sends a message and writes its bursts.
+fn say_bursts(rt: &HostRuntime, block: EcBlock, message: &[u8]) -> Result<(), Unanswered> {
+    let mut bursts = vec![in rt.alloc(); 0; BURST * block.burst_count()].map_err(
+        anyhow::Error::from,
+    )?;
+    send(&block, message, bursts.as_mut_slice()).map_err(Fault::from)?;
+    for (number, places) in bursts.chunks(BURST).enumerate() {
+        say(rt, Answer::Burst { number, places })?;
     }
+    Ok(())
+}
+
+fn say(rt: &HostRuntime, answer: Answer<'_>) -> anyhow::Result<()> {
+    println!(rt; "{answer}")?;
     Ok(())
 }
 

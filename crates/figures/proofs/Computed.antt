@@ -4,6 +4,8 @@ use Rattle.std.specs.List.{range_with_len, AllByRecursion, list_all}
 use lib.Pointwise.{pointwise}
 use Rattle.std.specs.Cmp.Lexicographic.{same_text}
 use Rattle.std.proofs.lemmas.List.{take_at}
+use Rattle.std.proofs.lemmas.List.Elements.{All-weaker, recursion_from_All}
+use Rattle.std.proofs.lemmas.List.Sums.{AllPass-from_list_all}
 use Rattle.std.proofs.lemmas.Bool.{and_parts, eqb-true, false≢true}
 use Rattle.code.specs.Bits.{Checked, string_check}
 use Rattle.code.specs.Convolution.{coded}
@@ -54,6 +56,4 @@ tested_figure (header_bits word bits) t = same_text _ _ (sym t)
 
 -- where a test tells that P holds, P holds of every entry of a list that passes
 pub tested_all : {X : Type 0} (test : X → Bool) (P : X → Type 0) → ((x : X) → test x ≡ true → P x) → (xs : List X) → list_all test xs ≡ true → AllByRecursion P xs
-tested_all test P told [] t = tt
-tested_all test P told (x ∷ xs) t =
-    let parts = and_parts (test x) (list_all test xs) t in (told x parts.0, tested_all test P told xs parts.1)
+tested_all test P told xs t = recursion_from_All P xs (All-weaker (λ x. test x ≡ true) P told xs (AllPass-from_list_all test xs t))

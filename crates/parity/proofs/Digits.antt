@@ -13,13 +13,8 @@ after : (a : ℕ) (ys : List ℕ) → fold grow a ys ≡ a * 2 ^ length ys + fol
 after a [] = omega arith
 after a (y ∷ ys) =
     let t = 2 ^ length ys in
-    let one : fold grow (2 * a + y) ys ≡ (2 * a + y) * t + fold grow 0 ys = after (2 * a + y) ys in
-    let two : fold grow y ys ≡ y * t + fold grow 0 ys = after y ys in
-    let same : fold grow (2 * 0 + y) ys ≡ fold grow y ys = ap (λ n. fold grow n ys) (omega arith) in
-    let apart : (2 * a + y) * t ≡ (2 * a) * t + y * t = add-mul (2 * a) y t in
-    let power : a * 2 ^ suc (length ys) ≡ (2 * a) * t =
-    ap (λ n. a * n) (pow-suc 2 (length ys) ∙ mul_comm t 2) ∙ sym (mul_assoc a 2 t) ∙ ap (λ n. n * t) (mul_comm a 2) in
-    omega (arith, one, two, same, apart, power)
+    let both : fold grow (2 * a + y) ys ≡ a * (t * 2) + fold grow (2 * 0 + y) ys = grind (arith, after (2 * a + y) ys, after (2 * 0 + y) ys) in
+    both ∙ ap (λ n. a * n + fold grow (2 * 0 + y) ys) (sym (pow-suc 2 (length ys)))
 
 pub read-append : (xs ys : List ℕ) → read (xs ++ ys) ≡ read xs * 2 ^ length ys + read ys
 read-append xs ys = fold-append grow 0 xs ys ∙ after (read xs) ys

@@ -29,7 +29,7 @@ module _ (g : Generator) (sound : Sound g) where
         quotient = q ++ (c ∷ []);
         binary = All-push (λ x. x < 2) q c old.binary hc;
         small = hs;
-        whole = more ∙ ap (λ n. 2 * n + b) old.whole ∙ xor_double (product q p) r b hb ∙ e ∙ ap (λ n. bit_xor n s) (sym longer);
+        whole = cc (more, old.whole, xor_double (product q p) r b hb, e, longer);
       }
 
   pub leaves_more : (bits : List ℕ) (r b : ℕ) → Leaves g bits r → b < 2 → Leaves g (bits ++ (b ∷ [])) (next g r b)

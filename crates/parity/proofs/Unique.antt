@@ -72,7 +72,7 @@ module _ (p d : ℕ) (lead : 2 ^ d ≤ p) (top : p < 2 ^ (d + 1)) where
   doubled a c =
       let e = xor_double a c 0 (omega arith) in
       let z : 2 * c + 0 ≡ 2 * c = omega arith in
-      ap (bit_xor (2 * a)) (sym z) ∙ sym e ∙ omega arith
+      grind (arith, e, z)
 
   linear : (a c : ℕ) (q t : List ℕ) → length q ≡ length t → Bits q → Bits t → bit_xor (fold grow a q) (fold grow c t) ≡ fold grow (bit_xor a c) (added q t)
   linear a c [] [] e h i = refl
@@ -81,9 +81,7 @@ module _ (p d : ℕ) (lead : 2 ^ d ≤ p) (top : p < 2 ^ (d + 1)) where
   linear a c (x ∷ q) (y ∷ t) e h i =
       linear (grow a x) (grow c y) q t (omega arith) h.1 i.1
       ∙ ap (λ n. fold grow n (added q t))
-      (xor_pairs (2 * a) (x * p) (2 * c) (y * p)
-      ∙ ap (λ n. bit_xor n (bit_xor (x * p) (y * p))) (doubled a c)
-      ∙ ap (bit_xor (2 * bit_xor a c)) (multiples x y h.0 i.0))
+      (cc (xor_pairs (2 * a) (x * p) (2 * c) (y * p), doubled a c, multiples x y h.0 i.0))
 
   -- leading zeros change no product
   leading_zeros : (k : ℕ) (q : List ℕ) → fold grow 0 (replicate {A = ℕ} k 0 ++ q) ≡ fold grow 0 q
@@ -105,7 +103,7 @@ one_remainder g sound bits r s one two =
     let b = product two.quotient p in
     let level : bit_xor a r ≡ bit_xor b s = sym one.whole ∙ two.whole in
     let both : bit_xor a b ≡ bit_xor r s =
-    xor_equal (bit_xor a b) (bit_xor r s) (xor_pairs a b r s ∙ ap (λ n. bit_xor n (bit_xor b s)) level ∙ xor_self (bit_xor b s)) in
+    xor_equal (bit_xor a b) (bit_xor r s) (cc (xor_pairs a b r s, level, xor_self (bit_xor b s))) in
     let m = length one.quotient in
     let n = length two.quotient in
     let first = replicate {A = ℕ} n 0 ++ one.quotient in

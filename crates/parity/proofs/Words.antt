@@ -30,14 +30,13 @@ module _ (g : Generator) (m p q : List ℕ) (bits-p : Bits p) (bits-q : Bits q) 
       let small-p : read p < 2 ^ d = rw long-p at (read_lt p bits-p) in
       let small-q : read q < 2 ^ d = rw long-q at (read_lt q bits-q) in
       let front : read m * 2 ^ d ≡ bit_xor (bit_xor a s) (read p) =
-      sym (xor_again (read m * 2 ^ d) (read p)) ∙ ap (λ n. bit_xor n (read p)) (sym (shifted p bits-p long-p) ∙ old.whole) in
+      cc (xor_again (read m * 2 ^ d) (read p), shifted p bits-p long-p, old.whole) in
       record {
         quotient = old.quotient;
         binary = old.binary;
         small = xor_lt d s (bit_xor (read p) (read q)) old.small (xor_lt d (read p) (read q) small-p small-q);
         whole =
-            shifted q bits-q long-q ∙ ap (λ n. bit_xor n (read q)) front
-            ∙ xor_assoc (bit_xor a s) (read p) (read q) ∙ xor_assoc a s (bit_xor (read p) (read q));
+            cc (shifted q bits-q long-q, front, xor_assoc (bit_xor a s) (read p) (read q), xor_assoc a s (bit_xor (read p) (read q)));
       }
 
   -- one parity leaves one remainder
@@ -78,7 +77,7 @@ module _ (rule : Rule) (limits : Limits rule) (m : List ℕ) (message : Message 
       let ones = all_ones g in
       let moved = leaves_moved g m zeros p (zeros_bits g.degree) parity.bits (length-replicate {A = ℕ} g.degree 0) parity.long r left in
       let all : bit_xor r (bit_xor (read zeros) (read p)) ≡ ones =
-      ap (bit_xor r) (ap (λ z. bit_xor z (read p)) (read_zeros g.degree) ∙ xor_zero_l (read p) ∙ lacks ∙ xor_comm r ones) ∙ xor_comm r (bit_xor ones r) ∙ xor_again ones r in
+      cc (read_zeros g.degree, xor_zero_l (read p), lacks, xor_comm r ones, xor_comm r (bit_xor r ones), xor_again ones r) in
       the_word p parity (subst (Leaves g (m ++ p)) all moved)
 
   -- and there is such parity

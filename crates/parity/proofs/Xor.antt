@@ -1,5 +1,5 @@
 -- Sums over GF(2) of numbers as polynomials.
-use Rattle.std.proofs.Common.{◌≡◌, ℕ, ◌+◌, ◌*◌, ◌^◌, ◌<◌, ◌⊎◌, sym, ap, ◌∙◌, arith}
+use Rattle.std.proofs.Common.{◌≡◌, ℕ, ◌+◌, ◌*◌, ◌^◌, ◌<◌, ◌⊎◌, arith}
 use lib.Bits.{bit_xor, xor_block, xor_zero_l, xor_zero_r, xor_self, xor_comm, xor_assoc}
 
 pub bit_cases : (b : ℕ) → b < 2 → (b ≡ 0) ⊎ (b ≡ 1)
@@ -15,9 +15,7 @@ xor_again x y = cc (xor_assoc x y y, xor_self y, xor_zero_r x)
 
 -- what is added on both sides goes
 pub xor_both : (t g s : ℕ) → bit_xor (bit_xor t g) (bit_xor s g) ≡ bit_xor t s
-xor_both t g s =
-    xor_assoc t g (bit_xor s g)
-    ∙ ap (bit_xor t) (ap (bit_xor g) (xor_comm s g) ∙ sym (xor_assoc g g s) ∙ ap (λ x. bit_xor x s) (xor_self g) ∙ xor_zero_l s)
+xor_both t g s = cc (xor_assoc t g (bit_xor s g), xor_comm s g, xor_assoc g g s, xor_self g, xor_zero_l s)
 
 -- what adds nothing is zero
 pub xor_nothing : (x y : ℕ) → x ≡ bit_xor x y → y ≡ 0
@@ -33,7 +31,4 @@ xor_leading d s t hs ht = grind (arith, xor_block d 1 1 s t hs ht)
 
 -- sums of sums, paired the other way
 pub xor_pairs : (x u y v : ℕ) → bit_xor (bit_xor x u) (bit_xor y v) ≡ bit_xor (bit_xor x y) (bit_xor u v)
-xor_pairs x u y v =
-    xor_assoc x u (bit_xor y v)
-    ∙ ap (bit_xor x) (sym (xor_assoc u y v) ∙ ap (λ n. bit_xor n v) (xor_comm u y) ∙ xor_assoc y u v)
-    ∙ sym (xor_assoc x y (bit_xor u v))
+xor_pairs x u y v = cc (xor_assoc x u (bit_xor y v), xor_assoc u y v, xor_comm u y, xor_assoc y u v, xor_assoc x y (bit_xor u v))

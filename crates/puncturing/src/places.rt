@@ -26,10 +26,7 @@ pub(crate) fn mcs_place(index: usize) -> usize
     requires few { index < 420 }
     ensures value { result ≡ mcs_place index }
 {
-    match header_place(index) {
-        Some(place) => place,
-        None => 72 + data_place(index - 48),
-    }
+    header_place(index).unwrap_or_else(|| 72 + data_place(index - 48))
 }
 
 // The data's kept place number 46 is an exception, and so is every 40th after it, eight in all; the others are kept by

@@ -1,6 +1,6 @@
 use Rattle.std.proofs.Common.{rules, tests}
 use Rattle.std.proofs.lemmas.Iterator.{YieldsList-from_map}
-use Rattle.std.proofs.lemmas.Iterator.Consumers.{YieldsList-from_first, YieldsList-at, sum_by_from_yields_List, fits_by_from_yields_list}
+use Rattle.std.proofs.lemmas.Iterator.Consumers.{YieldsList-from_first, YieldsList-at, fits_by_from_yields_list}
 use Rattle.block.specs.Left.{parts_left}
 use Rattle.sender.proofs.Parts.{messages_fit}
 use Rattle.sender.proofs.message_length.Goals as goal
@@ -13,11 +13,3 @@ sum-requires-clause-fits g c =
     (YieldsList-from_map _ (λ r. r.message) (YieldsList-at c.map.ensures.source parts) c.map.ensures.closure (λ x r q k. search (rules, tests)))
     (messages_fit layout (g.met.B.Block.limits c.args.block.now))
 
-pub returns : goal.returns
-returns g c =
-    let layout = g.B.Block.layout c.args.block.now in
-    let parts = YieldsList-from_first g.B.Part.CodePart.rule (parts_left g.B.Block.layout) layout.parts c.parts.ensures.value in
-    record {
-      value = sum_by_from_yields_List _ layout.parts c.map.result _ c.sum.ensures.ran
-          (YieldsList-from_map _ (λ r. r.message) (YieldsList-at c.map.ensures.source parts) c.map.ensures.closure (λ x r q k. search (rules, tests)));
-    }
