@@ -10,6 +10,7 @@ use code::EcPart;
 use placement::{Flags, Interleaver, Over, SplitByTen, SplitByTwo, Straight};
 use puncturing::KeptList;
 
+/// One of the five blocks.
 #[derive(Clone, Copy, PartialEq, Eq, Debug)]
 pub enum EcBlock {
     /// CCCH/D

@@ -4,7 +4,7 @@ ghost use Rattle.code.specs.Bits.{BitString, FirstNoBit, length_check, string_ch
 
 use fault::ParityFault;
 
-/// A call that reads a string of bits checks its length, then the bits.
+/// Checks a string of bits that a call reads: its length, then the bits.
 pub fn check_string(bits: &[u8], asked: usize) -> Result<(), ParityFault>
     ensures refusal { result ≡ string_check bits.now asked }
     ensures passed { OnOk result (BitString asked bits.now) }
@@ -13,8 +13,8 @@ pub fn check_string(bits: &[u8], asked: usize) -> Result<(), ParityFault>
     check_bits(bits)
 }
 
-/// A call that writes from a string of bits checks the string's length, then the output's, which is `out` where `room`
-/// is asked, then the bits.
+/// Checks a string of bits that a call writes from: its length, then the output's, which is `out` where `room` is asked,
+/// then the bits.
 pub fn check_writing(bits: &[u8], asked: usize, out: usize, room: usize) -> Result<(), ParityFault>
     ensures refusal { result ≡ writing_check bits.now asked out room }
     ensures passed { OnOk result (BitString asked bits.now × (out ≡ room)) }

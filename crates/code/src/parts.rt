@@ -5,6 +5,7 @@ ghost use Rattle.code.specs.Limits.{table_limits};
 
 use crate::part::{CodePart, Ending, Generator, Rule};
 
+/// One of the six parts.
 #[derive(Clone, Copy, PartialEq, Eq, Debug)]
 pub enum EcPart {
     /// CCCH/D
@@ -77,6 +78,7 @@ const RULES: [Rule; 6] = [
 ];
 
 impl EcPart {
+    /// What the part means, by the table.
     pub fn rule(self) -> Rule
         ensures value { result ≡ rule_of self }
     {

@@ -61,6 +61,7 @@ impl From<anyhow::Error> for Unanswered {
 /// Answers the lines of standard input, counted from 1, until it ends.
 pub fn answer_lines<C: Console + Drop>(rt: &HostRuntime, mut console: C) -> anyhow::Result<()> {
     let lines = BufReader::new(rt.alloc(), rt.stdin())?.split(rt.alloc(), b'\n');
+    // Not `enumerate`, which asks that the lines be known to be few; the number stays at the largest.
     let numbers = successors(Some(1u64), |number| Some(number.saturating_add(1)));
     for (number, line) in numbers.zip(lines) {
         match answer(rt, &mut console, line?.as_slice()) {

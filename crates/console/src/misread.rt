@@ -6,6 +6,7 @@ ghost use Rattle.console.specs.declared.misread.Misread.TheVariants.{NoMemory};
 use std::alloc::AllocFailed;
 use std::fmt;
 
+/// What is wrong with a line, first as it is read from left to right.
 #[derive(Clone, Copy, PartialEq, Eq, Debug)]
 pub enum Misread {
     NotText,

@@ -34,15 +34,18 @@ pub enum Call {
     },
 }
 
+/// The block that the next word names.
 pub fn block_word(words: &mut SplitAsciiWhitespace<'_>) -> Result<EcBlock, Misread> {
     let name = words.next().ok_or(Misread::NoName)?;
     name.parse().map_err(|_| Misread::NoSuchBlock)
 }
 
+/// The bits that the next word writes.
 pub fn bits_word(heap: Global, words: &mut SplitAsciiWhitespace<'_>) -> Result<Vec<u8>, Misread> {
     digits(heap, words.next().ok_or(Misread::NoBits)?)
 }
 
+/// The number that the next word writes.
 pub fn number_word(words: &mut SplitAsciiWhitespace<'_>) -> Result<usize, Misread> {
     number(words.next().ok_or(Misread::NoNumber)?)
 }

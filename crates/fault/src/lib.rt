@@ -24,7 +24,7 @@ pub enum Detail {
     PartAndCost { part: usize, cost: u32 },
 }
 
-/// Weighing samples. Buffers are numbered from 1 in the order in which a call checks them.
+/// Why samples are not weighed. Buffers are numbered from 1 in the order in which a call checks them.
 #[derive(Clone, Copy, PartialEq, Eq, Debug)]
 pub enum ValueFault {
     Length { buffer: u8 },
@@ -36,7 +36,7 @@ pub enum ValueFault {
     Quotient,
 }
 
-/// Sending, and the parity of a word that was found.
+/// Why a message is not sent, or a word that was found is not handed out.
 #[derive(Clone, Copy, PartialEq, Eq, Debug)]
 pub enum ParityFault {
     Length { buffer: u8 },
@@ -46,11 +46,13 @@ pub enum ParityFault {
     WrongParity { part: usize, cost: u32 },
 }
 
+/// Why a place of a block is not had.
 #[derive(Clone, Copy, PartialEq, Eq, Debug)]
 pub enum PlacementFault {
     NoSuchBurst { burst: usize },
 }
 
+/// Why a receiver does not take a burst, or does not answer.
 #[derive(Clone, Copy, PartialEq, Eq, Debug)]
 pub enum ReceiverFault {
     Length { buffer: u8 },
@@ -60,7 +62,7 @@ pub enum ReceiverFault {
     NoSuchPart { part: usize },
 }
 
-/// Repeats on timeslots.
+/// Why there is no such repeat on timeslots.
 #[derive(Clone, Copy, PartialEq, Eq, Debug)]
 pub enum TimingFault {
     /// The block is not sent that many times in all.
@@ -71,6 +73,7 @@ pub enum TimingFault {
     Slots,
 }
 
+/// Why a call is refused, in whatever layer.
 #[derive(Clone, Copy, PartialEq, Eq, Debug)]
 pub enum Fault {
     Value(ValueFault),
@@ -122,6 +125,7 @@ impl From<TimingFault> for Fault {
 }
 
 impl Fault {
+    /// The number of the refusal, 1 to 9.
     pub fn number(self) -> u8
         ensures value { result ≡ number_of self }
     {
@@ -140,6 +144,7 @@ impl Fault {
         }
     }
 
+    /// The layer in which it arose.
     pub fn layer(self) -> Layer
         ensures value { result ≡ layer_of self }
     {
@@ -152,6 +157,7 @@ impl Fault {
         }
     }
 
+    /// What stands beside the number.
     pub fn detail(self) -> Detail
         ensures value { result ≡ detail_of self }
     {

@@ -1,11 +1,7 @@
 -- The header's kept list by a formula.
 use Rattle.std.proofs.Common.{◌≡◌, ℕ, ◌+◌, ◌*◌, ◌/◌, ◌%◌, length, refl}
-use Rattle.placement.specs.Kept.{kept, header_kept}
+use Rattle.placement.specs.Kept.{kept, header_kept, header_place}
 use Rattle.placement.proofs.Formula.{ByFormula, by_formula}
-
--- of the places that do not leave 2 when divided by 3, the one with j of them before it
-abbrev pub header_place : ℕ → ℕ
-header_place j = 3 * (j / 2) + j % 2
 
 pub header_by_formula : ByFormula header_place 48 header_kept
 unfolding kept

@@ -1,5 +1,6 @@
 -- Closed forms of the kept places, by which the code finds them. No public contract speaks of them.
 use Rattle.std.specs.Prelude.{ℕ, ◌+◌, ◌-◌, ◌*◌, ◌/◌, ◌%◌, cond, List, [], ◌∷◌, ◌==◌, nat_lt, slice_index}
+use Rattle.placement.specs.Kept.{header_place}
 use Rattle.puncturing.specs.Kept.{exceptions}
 use Rattle.puncturing.specs.declared.Figures.{Figures}
 use Rattle.puncturing.specs.declared.KeptList.{KeptList}
@@ -24,7 +25,7 @@ data_place j =
     (residue_place (j - 8)))
 
 abbrev pub mcs_place : ℕ → ℕ
-mcs_place j = cond (nat_lt j 48) (3 * (j / 2) + j % 2) (72 + data_place (j - 48))
+mcs_place j = cond (nat_lt j 48) (header_place j) (72 + data_place (j - 48))
 
 abbrev pub place_of : KeptList → ℕ → ℕ
 place_of CcchDown = even_place (figures_of CcchDown)

@@ -58,7 +58,7 @@ fn write_bursts<B: Block>(block: &B, message: &[u8], out: &mut [u8])
 }
 
 // Writes the coded bits of the parts that are left, each next part's after the last one's. It calls itself for the parts
-// after the first: of a `&mut` that a loop cuts shorter, nothing is known after the loop.
+// after the first: what the whole of a `&mut` slice holds is not known after a loop that cuts it shorter.
 #[tactic(auto, using(crate::proofs::Parts::encoded_cons))]
 fn encode_parts<B: Block>(mut parts: Parts<'_, B>, message: &[u8], coded: &mut [u8])
     requires message { BitString (sum_by (λ p. p.message) (parts_left B.layout parts)) message.now }

@@ -13,8 +13,9 @@ use fault::{Fault, PlacementFault, TimingFault};
 #[derive(Clone, Copy, PartialEq, Eq, Debug)]
 pub struct Schedule {
     pub block: EcBlock,
+    /// How many times the block is sent in all.
     pub total: usize,
-    /// CCCH/D, which stays on one slot, does not look at this.
+    /// On how many slots; not looked at for CCCH/D, which stays on one.
     pub slots: usize,
 }
 
@@ -25,11 +26,11 @@ impl Schedule {
         ensures value { result ≡ timeslot self.block self.total repeat self.slots burst }
         ensures back { IfOk result (λ t. repeat_at self.block self.total self.slots t.0 t.1 ≡ Ok (repeat, burst)) }
     {
-        require(self.permits_total(), TimingFault::Total)?;
-        require(repeat < self.total, TimingFault::Repeat)?;
+        refuse_unless(self.permits_total(), TimingFault::Total)?;
+        refuse_unless(repeat < self.total, TimingFault::Repeat)?;
         let slots = self.slots_used()?;
         let bursts = self.block.burst_count();
-        require(burst < bursts, PlacementFault::NoSuchBurst { burst })?;
+        refuse_unless(burst < bursts, PlacementFault::NoSuchBurst { burst })?;
         Ok((burst + bursts * (repeat / slots), repeat % slots))
     }
 
@@ -39,12 +40,12 @@ impl Schedule {
         ensures value { result ≡ repeat_at self.block self.total self.slots burst slot }
         ensures back { IfOk result (λ t. timeslot self.block self.total t.0 self.slots t.1 ≡ Ok (burst, slot)) }
     {
-        require(self.permits_total(), TimingFault::Total)?;
+        refuse_unless(self.permits_total(), TimingFault::Total)?;
         let slots = self.slots_used()?;
-        require(slot < slots, TimingFault::Slots)?;
+        refuse_unless(slot < slots, TimingFault::Slots)?;
         let bursts = self.block.burst_count();
         let found = slots * (burst / bursts) + slot;
-        require(found < self.total, TimingFault::Repeat)?;
+        refuse_unless(found < self.total, TimingFault::Repeat)?;
         Ok((found, burst % bursts))
     }
 
@@ -72,7 +73,7 @@ impl Schedule {
 }
 
 // Refuses by the fault what does not pass.
-fn require<F: Drop>(passes: bool, fault: F) -> Result<(), F>
+fn refuse_unless<F: Drop>(passes: bool, fault: F) -> Result<(), F>
     ensures value { result ≡ unless passes fault (Ok tt) }
 {
     if passes { Ok(()) } else { Err(fault) }
