@@ -1,11 +1,11 @@
 -- Where the checks of bits and lengths pass, and what they find.
 use Rattle.std.proofs.Common.{◌≡◌, ℕ, zero, suc, ◌+◌, ◌<◌, ◌≤◌, Bool, true, false, eqb, ltb, List, [], ◌∷◌, length, get_or, IfOk, Ok, Err, sym, refl, ap, ◌∙◌, zero-add, arith}
-use Rattle.std.proofs.ByRecursion.{All-from_get_or}
 use Rattle.std.proofs.lemmas.Bool.{lt-ltb, le-ltb, ltb-true, eq-eqb, eqb-true, cond-true, cond-false}
 use Rattle.fault.specs.Check.{unless}
 use Rattle.fault.specs.declared.ParityFault.{ParityFault}
 use Rattle.fault.specs.declared.ParityFault.TheVariants.{Length, NotABit, WrongParity}
 use Rattle.code.specs.Bits.{Bits, BitString, Checked, FirstNoBit, length_check, bits_check_from, bits_check, string_check, writing_check}
+use Rattle.code.proofs.Bits.{Bits-from_get_or}
 
 -- what passes had its test passed, and so had the rest
 unless_passed : (t : Bool) (f : ParityFault) (rest : Checked) → unless t f rest ≡ Ok tt → (t ≡ true) × (rest ≡ Ok tt)
@@ -38,7 +38,7 @@ bits_fail i (b ∷ bytes) (suc j) inside bad good =
 
 -- finding the first byte that is no bit is the check
 pub first_no_bit : (bytes : List ℕ) (r : Checked) → FirstNoBit bytes r → r ≡ bits_check bytes
-first_no_bit bytes (Ok t) found = sym (bits_pass 0 bytes (All-from_get_or (λ b. b < 2) bytes 0 found))
+first_no_bit bytes (Ok t) found = sym (bits_pass 0 bytes (Bits-from_get_or bytes found))
 first_no_bit bytes (Err (Length buffer)) found = absurd found
 first_no_bit bytes (Err (NotABit i)) found =
     sym (bits_fail 0 bytes i found.0 found.1 found.2 ∙ ap (λ n. Err (NotABit n)) (zero-add i))

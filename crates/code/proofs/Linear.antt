@@ -1,5 +1,5 @@
 -- The code is linear over GF(2): lemmas on sums of words, up to the coded bits of a sum.
-use Rattle.std.proofs.Common.{◌≡◌, ℕ, zero, suc, ◌+◌, ◌-◌, ◌/◌, ◌%◌, Bool, true, false, cond, eqb, ltb, List, [], ◌∷◌, map, length, get_or, sym, refl, ap, ◌∙◌, ap₂, arith}
+use Rattle.std.proofs.Common.{◌≡◌, ℕ, zero, suc, ◌+◌, ◌-◌, ◌/◌, ◌%◌, Bool, true, false, cond, eqb, ltb, List, [], ◌∷◌, map, length, get_or, sym, refl, ap, ap₂, arith}
 use Rattle.code.specs.declared.part.Ending.{Ending}
 use Rattle.code.specs.declared.part.Ending.TheVariants.{TailBiting, ZeroTail}
 use Rattle.code.specs.Convolution.{before, back, coded, coded_word}
