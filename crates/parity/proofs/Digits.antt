@@ -1,6 +1,6 @@
 -- Bits read as a number, the first at the highest power.
 use Rattle.std.proofs.Common.{◌≡◌, ℕ, zero, suc, ◌+◌, ◌*◌, ◌/◌, ◌%◌, ◌^◌, ◌<◌, List, [], ◌∷◌, ◌++◌, length, replicate, fold, sym, refl, ap, ◌∙◌, ap₂, mod-lt, mul_assoc, mul_comm, add-mul, pow-suc, div-one, add-one, arith, lit<}
-use native.Mathlib.Nat.{div-eq_of_lt, div-div-eq-div-mul}
+use Rattle.std.proofs.Math.Nat.{div-eq_of_lt, div-div-eq-div-mul}
 use Rattle.std.proofs.lemmas.List.Sums.{fold-append}
 use Rattle.code.specs.Bits.{Bits}
 use Rattle.parity.specs.Division.{read}

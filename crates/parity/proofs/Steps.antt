@@ -1,10 +1,11 @@
 -- One more bit of a division.
-use Rattle.std.proofs.Common.{◌≡◌, ℕ, ◌+◌, ◌-◌, ◌*◌, ◌^◌, ◌<◌, ◌≤◌, ltb, List, [], ◌∷◌, ◌++◌, fold, sym, refl, ap, ◌∙◌, subst, ⊎_elim, append_assoc, append-nil, arith, pow_pos}
-use lib.Bits.{bit_xor, xor_zero_r, xor_lt}
-use Rattle.std.proofs.ByRecursion.{All-push}
+use Rattle.std.proofs.Common.{◌≡◌, ℕ, ◌+◌, ◌-◌, ◌*◌, ◌^◌, ◌<◌, ◌≤◌, ltb, List, [], ◌∷◌, ◌++◌, fold, bit_xor, sym, refl, ap, ◌∙◌, subst, ⊎_elim, append_assoc, append-nil, arith, pow_pos}
+use Rattle.std.specs.Int.Bits.{xor_zero_r}
+use Rattle.std.proofs.lemmas.Nat.{xor_lt}
 use Rattle.std.proofs.lemmas.List.Sums.{fold_push}
 use Rattle.std.proofs.lemmas.Bool.{cases_lt, cond-true, cond-false, lt-ltb, le-ltb}
 use Rattle.code.specs.Bits.{Bits}
+use Rattle.code.proofs.Bits.{Bits-push}
 use Rattle.code.specs.Part.{Sound}
 use Rattle.code.specs.declared.part.Generator.{Generator}
 use Rattle.parity.specs.Division.{Leaves, read, product, polynomial}
@@ -27,7 +28,7 @@ module _ (g : Generator) (sound : Sound g) where
       let longer : product (q ++ (c ∷ [])) p ≡ bit_xor (2 * product q p) (c * p) = fold_push (λ x y. bit_xor (2 * x) (y * p)) 0 q c in
       record {
         quotient = q ++ (c ∷ []);
-        binary = All-push (λ x. x < 2) q c old.binary hc;
+        binary = Bits-push q c old.binary hc;
         small = hs;
         whole = cc (more, old.whole, xor_double (product q p) r b hb, e, longer);
       }

@@ -1,10 +1,11 @@
 -- A division leaves one remainder: a sum of two multiples of the polynomial is a multiple, and a multiple that is not zero has its degree or more.
-use Rattle.std.proofs.Common.{◌≡◌, ℕ, zero, suc, ◌+◌, ◌*◌, ◌^◌, ◌<◌, ◌≤◌, ◌⊎◌, List, [], ◌∷◌, ◌++◌, length, replicate, fold, sym, refl, ap, ◌∙◌, subst, ap₂, inl, inr, ⊎_elim, one-mul, zero-mul, arith, length-append, pow-add}
-use lib.Bits.{bit_xor, xor_zero_l, xor_zero_r, xor_self, xor_lt}
-use lib.ListN.{length-replicate}
+use Rattle.std.proofs.Common.{◌≡◌, ℕ, zero, suc, ◌+◌, ◌*◌, ◌^◌, ◌<◌, ◌≤◌, ◌⊎◌, List, [], ◌∷◌, ◌++◌, length, replicate, fold, bit_xor, sym, refl, ap, ◌∙◌, subst, ap₂, inl, inr, ⊎_elim, one-mul, zero-mul, arith, length-append, pow-add}
+use Rattle.std.specs.Int.Bits.{xor_zero_l, xor_zero_r, xor_self}
+use Rattle.std.proofs.lemmas.Nat.{xor_lt}
+use Rattle.std.proofs.lemmas.List.{length-replicate}
 use Rattle.std.proofs.lemmas.Bool.{cases_lt}
-use Rattle.std.proofs.ByRecursion.{All-append}
 use Rattle.code.specs.Bits.{Bits}
+use Rattle.code.proofs.Bits.{Bits-append}
 use Rattle.code.specs.Part.{Sound}
 use Rattle.code.specs.declared.part.Generator.{Generator}
 use Rattle.parity.specs.Division.{Leaves, product, polynomial}
@@ -108,8 +109,8 @@ one_remainder g sound bits r s one two =
     let n = length two.quotient in
     let first = replicate {A = ℕ} n 0 ++ one.quotient in
     let second = replicate {A = ℕ} m 0 ++ two.quotient in
-    let bits-first = All-append (λ b. b < 2) (replicate {A = ℕ} n 0) one.quotient (zeros_bits n) one.binary in
-    let bits-second = All-append (λ b. b < 2) (replicate {A = ℕ} m 0) two.quotient (zeros_bits m) two.binary in
+    let bits-first = Bits-append (replicate {A = ℕ} n 0) one.quotient (zeros_bits n) one.binary in
+    let bits-second = Bits-append (replicate {A = ℕ} m 0) two.quotient (zeros_bits m) two.binary in
     let even : length first ≡ length second = omega (arith, padded_long n one.quotient, padded_long m two.quotient) in
     let q = added p d lead top first second in
     let sum : bit_xor a b ≡ product q p =

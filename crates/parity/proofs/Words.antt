@@ -1,10 +1,10 @@
 -- Every message has one word with right parity.
-use Rattle.std.proofs.Common.{◌≡◌, ℕ, Decides, eqb, eq-eqb, eqb-true, ◌+◌, ◌*◌, ◌^◌, ◌<◌, List, ◌++◌, length, drop, replicate, fold, sym, ap, ◌∙◌, subst, arith, length-append, length-drop, take-append-drop}
-use lib.Bits.{bit_xor, xor_shifted, xor_assoc, xor_comm, xor_zero_l, xor_self, xor_lt}
-use lib.ListN.{length-replicate}
-use Rattle.std.proofs.ByRecursion.{All-append, All-drop}
-use Rattle.std.proofs.lemmas.List.{take_at}
+use Rattle.std.proofs.Common.{◌≡◌, ℕ, Decides, eqb, eq-eqb, eqb-true, ◌+◌, ◌*◌, ◌^◌, ◌<◌, List, ◌++◌, length, drop, replicate, fold, bit_xor, sym, ap, ◌∙◌, subst, arith, length-append, length-drop, take-append-drop}
+use Rattle.std.specs.Int.Bits.{xor_shifted, xor_assoc, xor_zero_l, xor_self}
+use Rattle.std.proofs.lemmas.Nat.{xor_comm, xor_lt}
+use Rattle.std.proofs.lemmas.List.{length-replicate, take_at}
 use Rattle.code.specs.Bits.{Bits, BitString}
+use Rattle.code.proofs.Bits.{Bits-append, Bits-drop}
 use Rattle.code.specs.Part.{Limits, Message, Sound}
 use Rattle.code.specs.declared.part.Generator.{Generator}
 use Rattle.code.specs.declared.part.Rule.{Rule}
@@ -54,7 +54,7 @@ module _ (rule : Rule) (limits : Limits rule) (m : List ℕ) (message : Message 
         is = record {
           word = record {
             long = length-append m p ∙ omega (arith, message.long, parity.long, limits.message_and_parity);
-            bits = All-append (λ b. b < 2) m p message.bits parity.bits;
+            bits = Bits-append m p message.bits parity.bits;
           };
           begins = take_at m p rule.message message.long;
           right = right;
@@ -63,7 +63,7 @@ module _ (rule : Rule) (limits : Limits rule) (m : List ℕ) (message : Message 
             let q = drop rule.message v in
             let whole : m ++ q ≡ v = ap (λ (t : List ℕ). t ++ q) (sym other.begins) ∙ take-append-drop rule.message v in
             let long-q : length q ≡ g.degree = length-drop rule.message v ∙ omega (arith, other.word.long, limits.message_and_parity) in
-            let bits-q : Bits q = All-drop (λ b. b < 2) rule.message v other.word.bits in
+            let bits-q : Bits q = Bits-drop rule.message v other.word.bits in
             let same = one_parity g m p q parity.bits bits-q parity.long long-q limits.generator (all_ones g) right (subst (RightParity rule) (sym whole) other.right) in
             sym whole ∙ ap (λ (t : List ℕ). m ++ t) (sym same);
       }
@@ -86,7 +86,7 @@ module _ (rule : Rule) (limits : Limits rule) (m : List ℕ) (message : Message 
       let g = rule.generator in
       let d = g.degree in
       let zeros = replicate {A = ℕ} d 0 in
-      let left = leaves_computed g limits.generator (m ++ zeros) (All-append (λ b. b < 2) m zeros message.bits (zeros_bits d)) in
+      let left = leaves_computed g limits.generator (m ++ zeros) (Bits-append m zeros message.bits (zeros_bits d)) in
       let r = fold (next g) 0 (m ++ zeros) in
       let v = bit_xor r (all_ones g) in
       let small : v < 2 ^ d = xor_lt d r (all_ones g) left.small (omega (arith, left.small)) in

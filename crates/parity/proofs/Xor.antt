@@ -1,6 +1,7 @@
 -- Sums over GF(2) of numbers as polynomials.
-use Rattle.std.proofs.Common.{◌≡◌, ℕ, ◌+◌, ◌*◌, ◌^◌, ◌<◌, ◌⊎◌, arith}
-use lib.Bits.{bit_xor, xor_block, xor_zero_l, xor_zero_r, xor_self, xor_comm, xor_assoc}
+use Rattle.std.proofs.Common.{◌≡◌, ℕ, ◌+◌, ◌*◌, ◌^◌, ◌<◌, ◌⊎◌, bit_xor, arith}
+use Rattle.std.proofs.lemmas.Nat.{xor_block, xor_comm}
+use Rattle.std.specs.Int.Bits.{xor_zero_l, xor_zero_r, xor_self, xor_assoc}
 
 pub bit_cases : (b : ℕ) → b < 2 → (b ≡ 0) ⊎ (b ≡ 1)
 bit_cases b h = grind arith

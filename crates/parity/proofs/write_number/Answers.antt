@@ -1,9 +1,9 @@
-use Rattle.std.proofs.Common.{◌≡◌, ◌+◌, ◌-◌, ◌*◌, ◌/◌, ◌%◌, ◌^◌, ◌<◌, [], ◌∷◌, ◌++◌, length, take, sym, ap, ◌∙◌, subst, arith}
-use lib.Bits.{bit_and, and_mask}
-use Rattle.std.proofs.ByRecursion.{All-push}
+use Rattle.std.proofs.Common.{◌≡◌, ◌+◌, ◌-◌, ◌*◌, ◌/◌, ◌%◌, ◌^◌, ◌<◌, [], ◌∷◌, ◌++◌, length, take, sym, ap, ◌∙◌, subst, bit_and, arith}
+use Rattle.std.proofs.lemmas.Nat.{and_mask}
 use Rattle.std.proofs.lemmas.List.{take_more_set}
 use Rattle.std.proofs.lemmas.List.Sums.{fold_push}
 use Rattle.code.specs.Bits.{Bits}
+use Rattle.code.proofs.Bits.{Bits-push}
 use Rattle.parity.specs.Division.{read}
 use Rattle.parity.proofs.Digits.{digits_more}
 use Rattle.parity.proofs.write_number.Goals as goal
@@ -24,6 +24,6 @@ loop-i-preserved c =
     let more : read (take i out ++ (b ∷ [])) ≡ 2 * read (take i out) + b = fold_push (λ x y. 2 * x + y) 0 (take i out) b in
     let written : read (take i out ++ (b ∷ [])) ≡ v / 2 ^ k = omega (arith, more, before, bit, digits_more v k) in
     let longer = take_more_set out i b inside in (
-      subst Bits (sym longer) (All-push (λ x. x < 2) (take i out) b c.loop-i.invariant.0 (omega (arith, bit))),
+      subst Bits (sym longer) (Bits-push (take i out) b c.loop-i.invariant.0 (omega (arith, bit))),
       ap read longer ∙ written ∙ ap (λ m. v / 2 ^ m) (sym there),
     )
