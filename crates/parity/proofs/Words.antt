@@ -68,16 +68,16 @@ module _ (rule : Rule) (limits : Limits rule) (m : List ℕ) (message : Message 
             sym whole ∙ ap (λ (t : List ℕ). m ++ t) (sym same);
       }
 
-  -- what the register lacks once it has taken a message and a zero for each bit of parity is the parity
+  -- what is missing in the register once it has taken a message and a zero for each bit of parity is the parity
   pub word_made : (p : List ℕ) → BitString rule.generator.degree p → (r : ℕ) → Leaves rule.generator (m ++ replicate {A = ℕ} rule.generator.degree 0) r
       → read p ≡ bit_xor r (all_ones rule.generator) → TheWordOf rule m (m ++ p)
-  word_made p parity r left lacks =
+  word_made p parity r left missing =
       let g = rule.generator in
       let zeros = replicate {A = ℕ} g.degree 0 in
       let ones = all_ones g in
       let moved = leaves_moved g m zeros p (zeros_bits g.degree) parity.bits (length-replicate {A = ℕ} g.degree 0) parity.long r left in
       let all : bit_xor r (bit_xor (read zeros) (read p)) ≡ ones =
-      cc (read_zeros g.degree, xor_zero_l (read p), lacks, xor_comm r ones, xor_comm r (bit_xor r ones), xor_again ones r) in
+      cc (read_zeros g.degree, xor_zero_l (read p), missing, xor_comm r ones, xor_comm r (bit_xor r ones), xor_again ones r) in
       the_word p parity (subst (Leaves g (m ++ p)) all moved)
 
   -- and there is such parity
@@ -93,10 +93,10 @@ module _ (rule : Rule) (limits : Limits rule) (m : List ℕ) (message : Message 
       let p = bits_of d v in
       (m ++ p, word_made p (record { long = bits_of_long d v; bits = bits_of_bits d v }) r left (read_back d v small))
 
--- what is left lacks nothing just where division leaves ones
-pub lacks_nothing : (g : Generator) (bits : List ℕ) (r lacks : ℕ) → Leaves g bits r → ((s : ℕ) → Leaves g bits s → s ≡ r) → lacks ≡ bit_xor r (all_ones g)
-    → Decides (eqb lacks 0) (Leaves g bits (all_ones g))
-lacks_nothing g bits r lacks left only is =
+-- nothing is missing just where division leaves ones
+pub nothing_missing : (g : Generator) (bits : List ℕ) (r missing : ℕ) → Leaves g bits r → ((s : ℕ) → Leaves g bits s → s ≡ r) → missing ≡ bit_xor r (all_ones g)
+    → Decides (eqb missing 0) (Leaves g bits (all_ones g))
+nothing_missing g bits r missing left only is =
     let ones = all_ones g in (
       λ none. subst (Leaves g bits) (xor_equal r ones (sym is ∙ eqb-true _ _ none)) left,
       λ right. eq-eqb _ _ (is ∙ ap (λ n. bit_xor n ones) (sym (only ones right)) ∙ xor_self ones),

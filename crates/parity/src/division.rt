@@ -40,11 +40,11 @@ impl Register {
     {
         let shifted = 2 * self.left + u32::from(bit);
         let leading = 1 << self.generator.degree;
-        if shifted < leading {
-            self.left = shifted;
+        self.left = if shifted < leading {
+            shifted
         } else {
-            self.left = (shifted - leading) ^ self.generator.taps;
-        }
+            (shifted - leading) ^ self.generator.taps
+        };
     }
 
     /// Takes a zero for each power below the polynomial's degree.
@@ -59,7 +59,7 @@ impl Register {
 
     /// What must be added to what is left before every coefficient is 1.
     #[tactic(auto, using(std::proofs::lemmas::Nat::xor_lt))]
-    pub fn lacks(&self) -> u32
+    pub fn missing(&self) -> u32
         ensures bound { result < 2 ^ self.now.generator.degree }
         ensures value { result ≡ bit_xor self.now.left (all_ones self.now.generator) }
     {

@@ -56,7 +56,7 @@ pub fn parity_right<C: CodePart>(part: &C, word: &[u8]) -> Result<bool, ParityFa
 {
     check_string(word, part.word_length())?;
     let register = Register::after(part.generator(), word);
-    Ok(register.lacks() == 0)
+    Ok(register.missing() == 0)
 }
 
 // Writes the parity of a message.
@@ -67,7 +67,7 @@ fn write_parity<C: CodePart>(part: &C, message: &[u8], out: &mut [u8])
 {
     let mut register = Register::after(part.generator(), message);
     register.take_zeros();
-    write_number(register.lacks(), out);
+    write_number(register.missing(), out);
 }
 
 // Writes a number in bits, the highest first.

@@ -3,5 +3,5 @@ use Rattle.std.proofs.lemmas.Grind.{common_steps}
 use Rattle.std.proofs.lemmas.Nat.{xor_lt}
 use Rattle.parity.proofs.division.Register.take.Goals as goal
 
-pub invariant_of-self-else-shifted-leading-clause-small : goal.invariant_of-self-else-shifted-leading-clause-small
-invariant_of-self-else-shifted-leading-clause-small c = grind (arith, common_steps, xor_lt)
+pub invariant_of-self-clause-small : goal.invariant_of-self-clause-small
+invariant_of-self-clause-small c = grind (arith, common_steps, xor_lt)
