@@ -5,9 +5,9 @@ use Rattle.std.proofs.lemmas.Nat.{xor_lt}
 use Rattle.std.proofs.lemmas.List.Sums.{fold_push}
 use Rattle.std.proofs.lemmas.Bool.{cases_lt, cond-true, cond-false, lt-ltb, le-ltb}
 use Rattle.code.specs.Bits.{Bits}
-use Rattle.code.proofs.Bits.{Bits-push}
 use Rattle.code.specs.Part.{Sound}
 use Rattle.code.specs.declared.part.Generator.{Generator}
+use Rattle.code.proofs.Bits.{Bits-push}
 use Rattle.parity.specs.Division.{Leaves, read, product, polynomial}
 use Rattle.parity.specs.Register.{next}
 use Rattle.parity.proofs.Xor.{xor_double, xor_both, xor_leading}

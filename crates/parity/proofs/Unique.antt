@@ -5,9 +5,9 @@ use Rattle.std.proofs.lemmas.Nat.{xor_lt}
 use Rattle.std.proofs.lemmas.List.{length-replicate}
 use Rattle.std.proofs.lemmas.Bool.{cases_lt}
 use Rattle.code.specs.Bits.{Bits}
-use Rattle.code.proofs.Bits.{Bits-append}
 use Rattle.code.specs.Part.{Sound}
 use Rattle.code.specs.declared.part.Generator.{Generator}
+use Rattle.code.proofs.Bits.{Bits-append}
 use Rattle.parity.specs.Division.{Leaves, product, polynomial}
 use Rattle.parity.proofs.Digits.{zeros_bits}
 use Rattle.parity.proofs.Xor.{bit_cases, xor_double, xor_again, xor_equal, xor_pairs}

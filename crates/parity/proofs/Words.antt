@@ -4,10 +4,10 @@ use Rattle.std.specs.Int.Bits.{xor_shifted, xor_assoc, xor_zero_l, xor_self}
 use Rattle.std.proofs.lemmas.Nat.{xor_comm, xor_lt}
 use Rattle.std.proofs.lemmas.List.{length-replicate, take_at}
 use Rattle.code.specs.Bits.{Bits, BitString}
-use Rattle.code.proofs.Bits.{Bits-append, Bits-drop}
 use Rattle.code.specs.Part.{Limits, Message, Sound}
 use Rattle.code.specs.declared.part.Generator.{Generator}
 use Rattle.code.specs.declared.part.Rule.{Rule}
+use Rattle.code.proofs.Bits.{Bits-append, Bits-drop}
 use Rattle.parity.specs.Division.{Leaves, all_ones, read, product, polynomial}
 use Rattle.parity.specs.Register.{next}
 use Rattle.parity.specs.Parity.{RightParity, TheWordOf}

@@ -1,14 +1,13 @@
 -- Every message of a block is sent in one way.
-use Rattle.std.proofs.Common.{◌≡◌, ℕ, zero, suc, ◌*◌, ◌<◌, List, [], ◌∷◌, get_or, take, drop, refl, ap, ◌∙◌, ap₂, arith}
+use Rattle.std.proofs.Common.{◌≡◌, ℕ, ◌*◌, ◌<◌, List, [], ◌∷◌, take, drop, refl, ap, ◌∙◌, ap₂, arith}
 use Rattle.std.specs.List.{range_with_len, sum_by, AllByRecursion}
-use Rattle.std.proofs.ByRecursion.{All-append, All-drop, All-map, All-take}
 use Rattle.std.proofs.lemmas.List.{length-drop, length-take-le}
 use Rattle.std.proofs.lemmas.List.Sums.{sum_by-cons}
-use Rattle.std.proofs.lemmas.List.Elements.{recursion_from_All}
 use Rattle.code.specs.Bits.{Bits, BitString}
 use Rattle.code.specs.Convolution.{coded, coded_word}
 use Rattle.code.specs.Part.{places, Limits as PartLimits}
 use Rattle.code.specs.declared.part.Rule.{Rule}
+use Rattle.code.proofs.Bits.{Bits-append, Bits-drop, Bits-get_or, Bits-map, Bits-take}
 use Rattle.parity.proofs.Words.{some_word}
 use Rattle.placement.specs.Placing.{Sound}
 use Rattle.placement.specs.declared.placement.Place.{Place}
@@ -22,8 +21,8 @@ some_words [] limits m whole = ([], tt)
 some_words (r ∷ rs) limits m whole =
     let n = r.message in
     let more = sum_by-cons (λ p. p.message) r rs in
-    let own = some_word r limits.0 (take n m) (record { long = length-take-le n m (omega (arith, whole.long, more)); bits = All-take _ n m whole.bits }) in
-    let rest = some_words rs limits.1 (drop n m) (record { long = length-drop n m ∙ omega (arith, whole.long, more); bits = All-drop _ n m whole.bits }) in
+    let own = some_word r limits.0 (take n m) (record { long = length-take-le n m (omega (arith, whole.long, more)); bits = Bits-take n m whole.bits }) in
+    let rest = some_words rs limits.1 (drop n m) (record { long = length-drop n m ∙ omega (arith, whole.long, more); bits = Bits-drop n m whole.bits }) in
     (own.0 ∷ rest.0, (own.1, rest.1))
 
 -- and no others
@@ -39,20 +38,15 @@ coded_bits : (rs : List Rule) (ws : List (List ℕ)) → Bits (coded_words rs ws
 coded_bits [] ws = tt
 coded_bits (r ∷ rs) [] = tt
 coded_bits (r ∷ rs) (w ∷ ws) =
-    All-append _ (coded_word r w) (coded_words rs ws)
-    (All-map _ (coded r.ending w) (range_with_len 0 (places r)) (recursion_from_All _ _ (λ k d l. omega arith)))
+    Bits-append (coded_word r w) (coded_words rs ws)
+    (Bits-map (coded r.ending w) (range_with_len 0 (places r)) (λ k. omega arith))
     (coded_bits rs ws)
-
-bit_at : (xs : List ℕ) → Bits xs → (c : ℕ) → get_or xs c 0 < 2
-bit_at [] bits c = omega arith
-bit_at (x ∷ xs) bits zero = bits.0
-bit_at (x ∷ xs) bits (suc c) = bit_at xs bits.1 c
 
 shown_bit : (l : Layout) → Sound l.pile → (xs : List ℕ) → Bits xs → (k : ℕ) → shown xs (l.pile.shows k) < 2
 shown_bit l sound xs bits k = go (l.pile.shows k) refl
   where
     go : (p : Place) → l.pile.shows k ≡ p → shown xs p < 2
-    go (Coded c) e = bit_at xs bits c
+    go (Coded c) e = Bits-get_or xs bits c
     go (Fixed b) e = sound.binary k b e
 
 pub one_sending : (l : Layout) → Limits l → (m : List ℕ) → BlockMessage l m → OneSending l m
@@ -68,5 +62,5 @@ one_sending l limits m whole =
       only = λ other s.
           let same = same_words l.parts m ws s.encoded.words found.1 s.encoded.of_message in
           s.laid ∙ ap (shown_all l.pile.shows n) (s.encoded.bits ∙ ap (coded_words l.parts) same);
-      bits = All-map _ (λ k. shown bits (l.pile.shows k)) (range_with_len 0 n) (recursion_from_All _ _ (λ k d h. shown_bit l limits.pile_sound bits (coded_bits l.parts ws) _));
+      bits = Bits-map (λ k. shown bits (l.pile.shows k)) (range_with_len 0 n) (shown_bit l limits.pile_sound bits (coded_bits l.parts ws));
     }

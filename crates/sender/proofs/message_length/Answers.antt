@@ -12,4 +12,3 @@ sum-requires-clause-fits g c =
     fits_by_from_yields_list _ layout.parts c.map.result _
     (YieldsList-from_map _ (λ r. r.message) (YieldsList-at c.map.ensures.source parts) c.map.ensures.closure (λ x r q k. search (rules, tests)))
     (messages_fit layout (g.met.B.Block.limits c.args.block.now))
-
