@@ -1,13 +1,20 @@
 //! Words of a line as values.
-ghost use Rattle.std.specs.Prelude.{◌≡◌, ◌⊎◌, ◌-◌, MatchResult};
+ghost use Rattle.std.specs.Prelude.{◌≡◌, ◌⊎◌, ◌-◌, Err, MatchOption, MatchResult};
 ghost use Rattle.console.specs.Digits.{Digit, Digits, digit_values};
-ghost use Rattle.console.specs.declared.misread.Misread.TheVariants.{NoMemory, NotBits};
+ghost use Rattle.console.specs.declared.misread.Misread.TheVariants.{NoBits, NoMemory, NotBits};
 
 use crate::misread::Misread;
 use std::alloc::Global;
 
-/// The digits of a text as numbers.
-pub fn digits(heap: Global, text: &str) -> Result<Vec<u8>, Misread>
+/// The bits that a word writes, if there is a word; digits from 2 on are handed on, so that the codec refuses them.
+pub fn bits_word(heap: Global, word: Option<&str>) -> Result<Vec<u8>, Misread>
+    ensures value { MatchOption word.entry (result ≡ Err NoBits) (λ text. MatchResult result (λ v. Digits text.now × (v.items ≡ digit_values text.now)) (λ e. (e ≡ NoMemory) ⊎ ((e ≡ NotBits) × (Digits text.now → ⊥)))) }
+{
+    digits(heap, word.ok_or(Misread::NoBits)?)
+}
+
+// The digits of a text as numbers.
+fn digits(heap: Global, text: &str) -> Result<Vec<u8>, Misread>
     ensures value { MatchResult result (λ v. Digits text.now × (v.items ≡ digit_values text.now)) (λ e. (e ≡ NoMemory) ⊎ ((e ≡ NotBits) × (Digits text.now → ⊥))) }
 {
     let mut values = Vec::new(heap);
@@ -32,7 +39,7 @@ mod tests {
 
     #[test]
     fn ten_digits(rt: HostRuntime) {
-        let found = digits(rt.alloc(), "0123456789");
+        let found = bits_word(rt.alloc(), Some("0123456789"));
         let values = [0, 1, 2, 3, 4, 5, 6, 7, 8, 9];
         assert!(rt; matches!(&found, Ok(found) if found.as_slice() == values.as_slice()));
     }

@@ -4,7 +4,7 @@
 mod header;
 mod text;
 
-use console::{Console, Misread, Unanswered, answer_lines, digits};
+use console::{Console, Misread, Unanswered, answer_lines, bits_word};
 use header::{Stages, take_through};
 use std::alloc::Global;
 use std::str::SplitAsciiWhitespace;
@@ -29,10 +29,7 @@ impl Console for HeaderConsole {
         words: &mut SplitAsciiWhitespace<'_>,
     ) -> Result<Command, Misread> {
         match name {
-            "header" => {
-                let bits = words.next().ok_or(Misread::NoBits)?;
-                Ok(Command::Header(digits(heap, bits)?))
-            }
+            "header" => Ok(Command::Header(bits_word(heap, words.next())?)),
             "help" => Ok(Command::Help),
             _ => Err(Misread::Unknown),
         }

@@ -1,12 +1,12 @@
 //! Commands, and their words as values.
-ghost use Rattle.std.specs.Prelude.{◌≡◌, ℕ, MatchResult};
-ghost use Rattle.console.specs.declared.misread.Misread.TheVariants.{NotANumber};
+ghost use Rattle.std.specs.Prelude.{◌≡◌, ◌≢◌, ℕ, Err, MatchOption, MatchResult};
+ghost use Rattle.block.specs.Names.{block_name};
+ghost use Rattle.block.specs.declared.blocks.EcBlock.{EcBlock};
+ghost use Rattle.console.specs.declared.misread.Misread.TheVariants.{NoName, NoNumber, NoSuchBlock, NotANumber};
 ghost use Rattle.ecsend.specs.Number.{Writes};
 
 use block::EcBlock;
-use console::{Misread, digits};
-use std::alloc::Global;
-use std::str::SplitAsciiWhitespace;
+use console::Misread;
 
 /// What a line asks for.
 #[derive(Drop)]
@@ -34,20 +34,19 @@ pub enum Call {
     },
 }
 
-/// The block that the next word names.
-pub fn block_word(words: &mut SplitAsciiWhitespace<'_>) -> Result<EcBlock, Misread> {
-    let name = words.next().ok_or(Misread::NoName)?;
+/// The block that a word names, if there is a word.
+pub fn block_word(word: Option<&str>) -> Result<EcBlock, Misread>
+    ensures value { MatchOption word.entry (result ≡ Err NoName) (λ name. MatchResult result (λ block. name.now ≡ block_name block) (λ e. (e ≡ NoSuchBlock) × ((block : EcBlock) → name.now ≢ block_name block))) }
+{
+    let name = word.ok_or(Misread::NoName)?;
     name.parse().map_err(|_| Misread::NoSuchBlock)
 }
 
-/// The bits that the next word writes.
-pub fn bits_word(heap: Global, words: &mut SplitAsciiWhitespace<'_>) -> Result<Vec<u8>, Misread> {
-    digits(heap, words.next().ok_or(Misread::NoBits)?)
-}
-
-/// The number that the next word writes.
-pub fn number_word(words: &mut SplitAsciiWhitespace<'_>) -> Result<usize, Misread> {
-    number(words.next().ok_or(Misread::NoNumber)?)
+/// The number that a word writes, if there is a word.
+pub fn number_word(word: Option<&str>) -> Result<usize, Misread>
+    ensures value { MatchOption word.entry (result ≡ Err NoNumber) (λ text. MatchResult result (Writes text.now) (λ e. (e ≡ NotANumber) × ((n : ℕ) → Writes text.now n → ⊥))) }
+{
+    number(word.ok_or(Misread::NoNumber)?)
 }
 
 // The number that digits write; a sign is none.

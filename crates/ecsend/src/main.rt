@@ -5,8 +5,8 @@ mod command;
 mod text;
 
 use block::{Block, EcBlock};
-use command::{Call, Command, bits_word, block_word, number_word};
-use console::{Console, Misread, Unanswered, answer_lines};
+use command::{Call, Command, block_word, number_word};
+use console::{Console, Misread, Unanswered, answer_lines, bits_word};
 use fault::Fault;
 use placement::BURST;
 use sender::send;
@@ -30,19 +30,19 @@ impl Console for SendingConsole {
         words: &mut SplitAsciiWhitespace<'_>,
     ) -> Result<Command, Misread> {
         match name {
-            "block" => Ok(Command::Block(block_word(words)?)),
-            "send" => Ok(Command::Call(Call::Send(bits_word(heap, words)?))),
+            "block" => Ok(Command::Block(block_word(words.next())?)),
+            "send" => Ok(Command::Call(Call::Send(bits_word(heap, words.next())?))),
             "slot" => Ok(Command::Call(Call::Slot {
-                total: number_word(words)?,
-                slots: number_word(words)?,
-                repeat: number_word(words)?,
-                burst: number_word(words)?,
+                total: number_word(words.next())?,
+                slots: number_word(words.next())?,
+                repeat: number_word(words.next())?,
+                burst: number_word(words.next())?,
             })),
             "repeat" => Ok(Command::Call(Call::Repeat {
-                total: number_word(words)?,
-                slots: number_word(words)?,
-                burst: number_word(words)?,
-                slot: number_word(words)?,
+                total: number_word(words.next())?,
+                slots: number_word(words.next())?,
+                burst: number_word(words.next())?,
+                slot: number_word(words.next())?,
             })),
             "help" => Ok(Command::Help),
             _ => Err(Misread::Unknown),
