@@ -9,4 +9,4 @@ mod words;
 pub use lines::{Console, Unanswered, answer_lines};
 pub use misread::Misread;
 pub use shown::{Bits, Refusal};
-pub use words::bits_word;
+pub use words::{alone, bits_word};

@@ -1,28 +1,33 @@
 //! Lines of standard input, each answered on standard output.
-ghost use Rattle.std.specs.Prelude.{◌≡◌};
+ghost use Rattle.std.specs.Prelude.{◌≡◌, ℕ, List, Option, Result, IfSome, OnOk, ⊤};
+ghost use Rattle.console.specs.Lines.{LeftByInput, LeftByLine};
 ghost use Rattle.console.specs.declared.lines.Unanswered.TheVariants.{Ended, Misread, Refused};
+ghost use Rattle.console.specs.declared.misread.Misread.{Misread as Wrong};
 
 use crate::misread::Misread;
 use crate::shown::Refusal;
 use fault::Fault;
 use std::alloc::Global;
-use std::io::{BufRead, BufReader};
-use std::iter::successors;
-use std::str::{SplitAsciiWhitespace, from_utf8};
+use std::io::BufRead;
+use std::str::from_utf8;
 
 /// What a console makes of its lines.
 pub trait Console {
     type Command: Drop;
 
-    /// The command of a name, which takes its words.
-    fn command(
-        heap: Global,
-        name: &str,
-        words: &mut SplitAsciiWhitespace<'_>,
-    ) -> Result<Self::Command, Misread>;
+    /// What a line of text may be read as.
+    ghost reads: { List ℕ → Result (Option Self.Command) Wrong → Type 0 } = { λ _ _. ⊤ };
+
+    /// What a command may leave of the console, however it is answered.
+    ghost carries: { Self → Self.Command → Self → Type 0 };
+
+    /// The command of a line, if the line is not blank.
+    fn command(heap: Global, line: &str) -> Result<Option<Self::Command>, Misread>
+        ensures value { reads line.now result };
 
     /// Carries out a command and writes its answer.
-    fn carry_out(&mut self, rt: &HostRuntime, command: Self::Command) -> Result<(), Unanswered>;
+    fn carry_out(&mut self, rt: &HostRuntime, command: Self::Command) -> Result<(), Unanswered>
+        ensures after { carries self.old command self.new };
 }
 
 /// Why a line is not answered: it is no command, which is told, or the console ends here.
@@ -58,15 +63,21 @@ impl From<anyhow::Error> for Unanswered {
     }
 }
 
-/// Answers the lines of standard input, counted from 1, until it ends.
-pub fn answer_lines<C: Console + Drop>(rt: &HostRuntime, mut console: C) -> anyhow::Result<()> {
-    let lines = BufReader::new(rt.alloc(), rt.stdin())?.split(rt.alloc(), b'\n');
-    // Not `enumerate`, which asks that the lines be known to be few; the number stays at the largest.
-    let numbers = successors(Some(1u64), |number| Some(number.saturating_add(1)));
-    for (number, line) in numbers.zip(lines) {
-        match answer(rt, &mut console, line?.as_slice()) {
+/// Answers the lines of an input, counted from 1, until it ends.
+pub fn answer_lines<C: Console, R: BufRead + Drop>(
+    rt: &HostRuntime,
+    console: &mut C,
+    input: R,
+) -> anyhow::Result<()>
+    ensures after { OnOk result (IfSome (R.remaining input) (LeftByInput C.reads C.carries console.old console.new)) }
+{
+    for (index, line) in input.split(rt.alloc(), b'\n').enumerate() {
+        match answer(rt, console, line?.as_slice()) {
             Ok(()) => {}
-            Err(Unanswered::Misread(misread)) => println!(rt; "error {number} {misread}")?,
+            Err(Unanswered::Misread(misread)) => {
+                let number = index + 1;
+                println!(rt; "error {number} {misread}")?
+            }
             Err(Unanswered::Refused(fault)) => println!(rt; "{}", Refusal(fault))?,
             Err(Unanswered::Ended(error)) => return Err(error),
         }
@@ -74,27 +85,16 @@ pub fn answer_lines<C: Console + Drop>(rt: &HostRuntime, mut console: C) -> anyh
     Ok(())
 }
 
-// A line that begins with # is skipped, and so is a blank one.
-fn answer<C: Console>(rt: &HostRuntime, console: &mut C, line: &[u8]) -> Result<(), Unanswered> {
-    if line.starts_with(b"#") {
+// A line that begins with # is skipped.
+fn answer<C: Console>(rt: &HostRuntime, console: &mut C, line: &[u8]) -> Result<(), Unanswered>
+    ensures after { LeftByLine C.reads C.carries console.old line.now console.new }
+{
+    if line.first() == Some(&b'#') {
         return Ok(());
     }
     let text = from_utf8(line).map_err(|_| Misread::NotText)?;
-    match command::<C>(rt.alloc(), text)? {
+    match C::command(rt.alloc(), text)? {
         Some(command) => console.carry_out(rt, command),
         None => Ok(()),
-    }
-}
-
-// The command of a line, if it is not blank.
-fn command<C: Console>(heap: Global, line: &str) -> Result<Option<C::Command>, Misread> {
-    let mut words = line.split_ascii_whitespace();
-    let Some(name) = words.next() else {
-        return Ok(None);
-    };
-    let command = C::command(heap, name, &mut words)?;
-    match words.next() {
-        None => Ok(Some(command)),
-        Some(_) => Err(Misread::TooManyWords),
     }
 }

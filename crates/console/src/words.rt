@@ -1,7 +1,7 @@
 //! Words of a line as values.
-ghost use Rattle.std.specs.Prelude.{◌≡◌, ◌⊎◌, ◌-◌, Err, MatchOption, MatchResult};
+ghost use Rattle.std.specs.Prelude.{◌≡◌, ◌⊎◌, ◌-◌, Some, Ok, Err, MatchOption, MatchResult};
 ghost use Rattle.console.specs.Digits.{Digit, Digits, digit_values};
-ghost use Rattle.console.specs.declared.misread.Misread.TheVariants.{NoBits, NoMemory, NotBits};
+ghost use Rattle.console.specs.declared.misread.Misread.TheVariants.{NoBits, NoMemory, NotBits, TooManyWords};
 
 use crate::misread::Misread;
 use std::alloc::Global;
@@ -11,6 +11,16 @@ pub fn bits_word(heap: Global, word: Option<&str>) -> Result<Vec<u8>, Misread>
     ensures value { MatchOption word.entry (result ≡ Err NoBits) (λ text. MatchResult result (λ v. Digits text.now × (v.items ≡ digit_values text.now)) (λ e. (e ≡ NoMemory) ⊎ ((e ≡ NotBits) × (Digits text.now → ⊥)))) }
 {
     digits(heap, word.ok_or(Misread::NoBits)?)
+}
+
+/// A command that took its words, unless more are left.
+pub fn alone<K: Drop>(command: K, next_word: Option<&str>) -> Result<Option<K>, Misread>
+    ensures value { MatchOption next_word.entry (result ≡ Ok (Some command)) (λ _. result ≡ Err TooManyWords) }
+{
+    match next_word {
+        None => Ok(Some(command)),
+        Some(_) => Err(Misread::TooManyWords),
+    }
 }
 
 // The digits of a text as numbers.

@@ -1,13 +1,15 @@
 //! A console for the codec: one command a line on standard input, each answered on standard output.
 #![tactic(auto)]
 
+ghost use Rattle.std.specs.Prelude.{◌≡◌};
+
 mod header;
 mod text;
 
-use console::{Console, Misread, Unanswered, answer_lines, bits_word};
+use console::{Console, Misread, Unanswered, alone, answer_lines, bits_word};
 use header::{Stages, take_through};
 use std::alloc::Global;
-use std::str::SplitAsciiWhitespace;
+use std::io::BufReader;
 use text::Stage;
 
 // What a line asks for.
@@ -23,16 +25,19 @@ struct HeaderConsole;
 impl Console for HeaderConsole {
     type Command = Command;
 
-    fn command(
-        heap: Global,
-        name: &str,
-        words: &mut SplitAsciiWhitespace<'_>,
-    ) -> Result<Command, Misread> {
-        match name {
-            "header" => Ok(Command::Header(bits_word(heap, words.next())?)),
-            "help" => Ok(Command::Help),
-            _ => Err(Misread::Unknown),
-        }
+    ghost carries = { λ old _ new. new ≡ old };
+
+    fn command(heap: Global, line: &str) -> Result<Option<Command>, Misread> {
+        let mut words = line.split_ascii_whitespace();
+        let Some(name) = words.next() else {
+            return Ok(None);
+        };
+        let command = match name {
+            "header" => Command::Header(bits_word(heap, words.next())?),
+            "help" => Command::Help,
+            _ => return Err(Misread::Unknown),
+        };
+        alone(command, words.next())
     }
 
     fn carry_out(&mut self, rt: &HostRuntime, command: Command) -> Result<(), Unanswered> {
@@ -70,5 +75,6 @@ fn say_help(rt: &HostRuntime) -> anyhow::Result<()> {
 }
 
 fn main(rt: HostRuntime) -> anyhow::Result<()> {
-    answer_lines(&rt, HeaderConsole)
+    let input = BufReader::new(rt.alloc(), rt.stdin())?;
+    answer_lines(&rt, &mut HeaderConsole, input)
 }

@@ -1,17 +1,19 @@
 //! A console for the codec: one command a line on standard input, each answered on standard output.
 #![tactic(auto)]
 
+ghost use Rattle.ecsend.specs.Session.{BlockNamed};
+
 mod command;
 mod text;
 
 use block::{Block, EcBlock};
 use command::{Call, Command, block_word, number_word};
-use console::{Console, Misread, Unanswered, answer_lines, bits_word};
+use console::{Console, Misread, Unanswered, alone, answer_lines, bits_word};
 use fault::Fault;
 use placement::BURST;
 use sender::send;
 use std::alloc::Global;
-use std::str::SplitAsciiWhitespace;
+use std::io::BufReader;
 use text::Answer;
 use timeslot::Schedule;
 
@@ -24,29 +26,32 @@ struct SendingConsole {
 impl Console for SendingConsole {
     type Command = Command;
 
-    fn command(
-        heap: Global,
-        name: &str,
-        words: &mut SplitAsciiWhitespace<'_>,
-    ) -> Result<Command, Misread> {
-        match name {
-            "block" => Ok(Command::Block(block_word(words.next())?)),
-            "send" => Ok(Command::Call(Call::Send(bits_word(heap, words.next())?))),
-            "slot" => Ok(Command::Call(Call::Slot {
+    ghost carries = { BlockNamed };
+
+    fn command(heap: Global, line: &str) -> Result<Option<Command>, Misread> {
+        let mut words = line.split_ascii_whitespace();
+        let Some(name) = words.next() else {
+            return Ok(None);
+        };
+        let command = match name {
+            "block" => Command::Block(block_word(words.next())?),
+            "send" => Command::Call(Call::Send(bits_word(heap, words.next())?)),
+            "slot" => Command::Call(Call::Slot {
                 total: number_word(words.next())?,
                 slots: number_word(words.next())?,
                 repeat: number_word(words.next())?,
                 burst: number_word(words.next())?,
-            })),
-            "repeat" => Ok(Command::Call(Call::Repeat {
+            }),
+            "repeat" => Command::Call(Call::Repeat {
                 total: number_word(words.next())?,
                 slots: number_word(words.next())?,
                 burst: number_word(words.next())?,
                 slot: number_word(words.next())?,
-            })),
-            "help" => Ok(Command::Help),
-            _ => Err(Misread::Unknown),
-        }
+            }),
+            "help" => Command::Help,
+            _ => return Err(Misread::Unknown),
+        };
+        alone(command, words.next())
     }
 
     fn carry_out(&mut self, rt: &HostRuntime, command: Command) -> Result<(), Unanswered> {
@@ -122,5 +127,6 @@ fn say_help(rt: &HostRuntime) -> anyhow::Result<()> {
 }
 
 fn main(rt: HostRuntime) -> anyhow::Result<()> {
-    answer_lines(&rt, SendingConsole { block: None })
+    let input = BufReader::new(rt.alloc(), rt.stdin())?;
+    answer_lines(&rt, &mut SendingConsole { block: None }, input)
 }
