@@ -34,7 +34,8 @@ struct Figures {
     repeats: u8,
 }
 
-const FIGURES: [Figures; 5] = [
+// A static, so that a question reads its row where it lies; a constant would be laid on the stack whole, at every question.
+static FIGURES: [Figures; 5] = [
     Figures {
         parts: &[EcPart::CcchDown],
         pile: EcPile::Straight(Over {

@@ -1,4 +1,4 @@
-//! Lines of standard input, each answered on standard output.
+//! Lines of an input, each answered on standard output.
 ghost use Rattle.std.specs.Prelude.{◌≡◌, ℕ, List, Option, Result, IfSome, OnOk, ⊤};
 ghost use Rattle.console.specs.Lines.{LeftByInput, LeftByLine};
 ghost use Rattle.console.specs.declared.lines.Unanswered.TheVariants.{Ended, Misread, Refused};
@@ -96,5 +96,41 @@ fn answer<C: Console>(rt: &HostRuntime, console: &mut C, line: &[u8]) -> Result<
     match C::command(rt.alloc(), text)? {
         Some(command) => console.carry_out(rt, command),
         None => Ok(()),
+    }
+}
+
+#[cfg(test)]
+mod tests {
+    use super::*;
+    use std::test::Fail;
+
+    // Counts the commands that are carried out; each line with a word is one.
+    #[derive(Drop)]
+    struct Counter {
+        count: usize,
+    }
+
+    impl Console for Counter {
+        type Command = ();
+
+        ghost carries = { λ _ _ _. ⊤ };
+
+        fn command(_heap: Global, line: &str) -> Result<Option<()>, Misread> {
+            Ok(line.split_ascii_whitespace().next().map(|_| ()))
+        }
+
+        fn carry_out(&mut self, _rt: &HostRuntime, _command: ()) -> Result<(), Unanswered> {
+            self.count = self.count.wrapping_add(1);
+            Ok(())
+        }
+    }
+
+    #[test]
+    fn each_line_is_handed_on(rt: HostRuntime) -> Result<(), Fail> {
+        let mut counter = Counter { count: 0 };
+        let input = "one\n\n# two\n \nthree\n\nfour".as_bytes();
+        answer_lines(&rt, &mut counter, input)?;
+        assert_eq!(rt; counter.count, 3);
+        Ok(())
     }
 }

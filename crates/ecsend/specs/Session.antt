@@ -4,7 +4,7 @@ use Rattle.ecsend.specs.declared.SendingConsole.{SendingConsole}
 use Rattle.ecsend.specs.declared.command.Command.{Command}
 use Rattle.ecsend.specs.declared.command.Command.TheVariants.{Block, Call, Help}
 
--- calls are for the block that was named last
+-- a block stays named until another is
 abbrev pub BlockNamed : SendingConsole → Command → SendingConsole → Type 0
 BlockNamed old (Block block) new = new.block ≡ Some block
 BlockNamed old (Call call) new = new.block ≡ old.block

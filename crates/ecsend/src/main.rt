@@ -6,7 +6,7 @@ ghost use Rattle.ecsend.specs.Session.{BlockNamed};
 mod command;
 mod text;
 
-use block::{Block, EcBlock};
+use block::{Block, EcBlock, MOST_BURSTS};
 use command::{Call, Command, block_word, number_word};
 use console::{Console, Misread, Unanswered, alone, answer_lines, bits_word};
 use fault::Fault;
@@ -100,10 +100,9 @@ fn make(rt: &HostRuntime, block: EcBlock, call: Call) -> Result<(), Unanswered> 
 
 // Sends a message and writes its bursts.
 fn say_bursts(rt: &HostRuntime, block: EcBlock, message: &[u8]) -> Result<(), Unanswered> {
-    let mut bursts = vec![in rt.alloc(); 0; BURST * block.burst_count()].map_err(
-        anyhow::Error::from,
-    )?;
-    send(&block, message, bursts.as_mut_slice()).map_err(Fault::from)?;
+    let mut buffer = [0; MOST_BURSTS * BURST];
+    let bursts = &mut buffer[..BURST * block.burst_count()];
+    send(&block, message, bursts).map_err(Fault::from)?;
     for (number, places) in bursts.chunks(BURST).enumerate() {
         say(rt, Answer::Burst { number, places })?;
     }

@@ -1,6 +1,6 @@
 //! The layers that keep entries in order. A layer is a placement whose coded places are the entries below it.
 ghost use Rattle.std.specs.Prelude.{◌≡◌};
-ghost use Rattle.placement.specs.Layers.{straight, split_by_two, split_by_ten, before, around_flags, flagged};
+ghost use Rattle.placement.specs.Layers.{straight, split_by_two, split_by_ten, around_flags, flagged};
 ghost use Rattle.placement.specs.Sounds.{straight_sound, split_by_two_sound, split_by_ten_sound, flagged_sound};
 
 use crate::placement::{BURST, Place, Placement, by_burst, up_to};
@@ -89,8 +89,6 @@ impl Placement for SplitByTen {
 #[derive(Clone, Copy)]
 pub struct Flags;
 
-const FLAG_PLACES: [usize; 4] = [25, 82, 139, 401];
-
 impl Placement for Flags {
     ghost placing = { λ _. flagged };
 
@@ -109,19 +107,16 @@ impl Placement for Flags {
     }
 }
 
-// A fixed 0 at the place of a flag; elsewhere an entry, moved on by the flags before it.
+// A fixed 0 at the place of a flag; elsewhere an entry, moved on by the flags before it, with no search for them.
 fn around_flags(place: usize) -> Place
     ensures value { result ≡ around_flags place }
 {
-    if FLAG_PLACES.contains(&place) {
-        Place::Fixed(0)
-    } else {
-        Place::Coded(place - count_before(place, &FLAG_PLACES))
+    match place {
+        25 | 82 | 139 | 401 => Place::Fixed(0),
+        0..=24 => Place::Coded(place),
+        26..=81 => Place::Coded(place - 1),
+        83..=138 => Place::Coded(place - 2),
+        140..=400 => Place::Coded(place - 3),
+        _ => Place::Coded(place - 4),
     }
-}
-
-fn count_before(place: usize, flags: &[usize]) -> usize
-    ensures value { result ≡ before place flags.now }
-{
-    flags.iter().filter(|flag| **flag < place).count()
 }

@@ -3,16 +3,15 @@
 
 ghost use Rattle.std.specs.Prelude.{◌≡◌, ◌+◌, ◌*◌, ◌≤◌, length, OnErr, OnOk};
 ghost use Rattle.std.specs.List.{sum_by};
-ghost use Rattle.code.specs.Bits.{BitString, writing_check};
+ghost use Rattle.code.specs.Bits.{writing_check};
 ghost use Rattle.code.specs.Part.{Message, places};
 ghost use Rattle.block.specs.Layout.{message_length};
-ghost use Rattle.block.specs.Left.{parts_left};
 ghost use Rattle.sender.specs.Sent.{BlockMessage, Encoded, Sent, shown, shown_all};
 ghost use Rattle.sender.specs.Written.{PartEncoded};
 
 mod laws;
 
-use block::{Block, MOST_CODED, Parts};
+use block::{Block, MOST_CODED};
 use code::{CodePart, LONGEST_WORD, check_writing, encode};
 use fault::ParityFault;
 pub use laws::every_message_is_sent_in_one_way;
@@ -53,23 +52,24 @@ fn write_bursts<B: Block>(block: &B, message: &[u8], out: &mut [u8])
     // As long as any block needs, since there is no heap.
     let mut buffer = [0; MOST_CODED];
     let coded = &mut buffer[..pile.coded_count()];
-    encode_parts(block.parts(), message, coded);
+    encode_parts(block, message, coded);
     lay(&pile, coded, out);
 }
 
-// Writes the coded bits of the parts that are left, each next part's after the last one's. It calls itself for the parts
-// after the first: what the whole of a `&mut` slice holds is not known after a loop that cuts it shorter.
-#[tactic(auto, using(crate::proofs::Parts::encoded_cons))]
-fn encode_parts<B: Block>(mut parts: Parts<'_, B>, message: &[u8], coded: &mut [u8])
-    requires message { BitString (sum_by (λ p. p.message) (parts_left B.layout parts)) message.now }
-    requires room { length coded.old ≡ sum_by places (parts_left B.layout parts) }
-    ensures after { Encoded (parts_left B.layout parts.entry) message.now coded.new }
+// Writes the coded bits of a message's parts, each next part's after the last one's.
+fn encode_parts<B: Block>(block: &B, message: &[u8], coded: &mut [u8])
+    requires message { BlockMessage (B.layout block.now) message.now }
+    requires room { length coded.old ≡ sum_by places (B.layout block.now).parts }
+    ensures after { Encoded (B.layout block.now).parts message.now coded.new }
 {
-    if let Some(part) = parts.next() {
-        let (own_message, rest_of_message) = message.split_at(part.message_length());
-        let (own_coded, rest_of_coded) = coded.split_at_mut(part.coded_count());
-        encode_message(&part, own_message, own_coded);
-        encode_parts(parts, rest_of_message, rest_of_coded);
+    let mut from = 0;
+    let mut start = 0;
+    for part in block.parts() {
+        let until = from + part.message_length();
+        let end = start + part.coded_count();
+        encode_message(&part, &message[from..until], &mut coded[start..end]);
+        from = until;
+        start = end;
     }
 }
 

@@ -4,6 +4,7 @@
 ghost use Rattle.std.specs.Prelude.{◌≡◌, ◌<◌, IfOk, Ok};
 ghost use Rattle.fault.specs.Check.{unless};
 ghost use Rattle.fault.specs.declared.TimingFault.TheVariants.{Slots};
+ghost use Rattle.block.specs.Blocks.{layout_of};
 ghost use Rattle.timeslot.specs.Timeslot.{total_permitted, slots_permitted, slots_used, timeslot, repeat_at};
 
 use block::{Block, EcBlock};
@@ -43,7 +44,7 @@ impl Schedule {
         refuse_unless(self.permits_total(), TimingFault::Total)?;
         let slots = self.slots_used()?;
         refuse_unless(slot < slots, TimingFault::Slots)?;
-        let bursts = self.block.burst_count();
+        let bursts = self.bursts();
         let found = slots * (burst / bursts) + slot;
         refuse_unless(found < self.total, TimingFault::Repeat)?;
         Ok((found, burst % bursts))
@@ -57,6 +58,17 @@ impl Schedule {
             EcBlock::CcchDown => matches!(self.total, 1 | 8 | 16 | 32),
             EcBlock::PacchDown | EcBlock::PacchUp => matches!(self.total, 1 | 4 | 8 | 16),
             EcBlock::PacchUp48 | EcBlock::Mcs => self.total == 48,
+        }
+    }
+
+    // How many bursts the block has. They are written out, and not asked of the table, so that a division by them is a
+    // shift.
+    fn bursts(self) -> usize
+        ensures value { result ≡ (layout_of self.block).bursts }
+    {
+        match self.block {
+            EcBlock::CcchDown => 2,
+            _ => 4,
         }
     }
 
